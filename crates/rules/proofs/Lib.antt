@@ -1,0 +1,12 @@
+pub mod Added
+pub mod Adding
+pub mod Applying
+pub mod Cuts
+pub mod Declining
+pub mod Gathered
+pub mod Insides
+pub mod Kept
+pub mod Lists
+pub mod Making
+pub mod Matching
+pub mod Telling

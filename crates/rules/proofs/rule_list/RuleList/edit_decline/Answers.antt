@@ -1,0 +1,18 @@
+use mathlib.Core.Path.{sym, _∙_, ap}
+use Rattle.std.specs.Of.Vec.{vec-len, vec-items}
+use Rattle.rules.specs.Edits.{edit-decline, swap-decline, delete-decline}
+use Rattle.rules.specs.Rules.{cut}
+use Rattle.rules.proofs.Cuts.{length-cut}
+use Rattle.rules.proofs.rule_list.RuleList.edit_decline.Needs as need
+
+pub returns-in-Swap : need.returns-in-Swap
+returns-in-Swap c ranges =
+    let list = c .args .self .now .rules in
+    let long = c .len .ensures ∙ list .ok .0 ∙ sym (length-cut ranges (c .args .decisions) (vec-items list)) in
+    c .swap-decline .ensures ∙ ap (λ n. swap-decline n (c .in-Swap .first) (c .in-Swap .second)) long ∙ ap (edit-decline (cut ranges (c .args .decisions) (vec-items list))) (sym (c .in-Swap .is))
+
+pub returns-in-Delete : need.returns-in-Delete
+returns-in-Delete c ranges =
+    let list = c .args .self .now .rules in
+    let long = c .len-in-Delete .ensures ∙ list .ok .0 ∙ sym (length-cut ranges (c .args .decisions) (vec-items list)) in
+    c .delete-decline .ensures ∙ ap (λ n. delete-decline n (c .in-Delete .place)) long ∙ ap (edit-decline (cut ranges (c .args .decisions) (vec-items list))) (sym (c .in-Delete .is))

@@ -1,0 +1,36 @@
+// The decisions on packets, from the strictest: discard 0, accept 1.
+ghost use Rattle.rules.specs.Packets.{packet-number};
+use crate::decline::Decline;
+use crate::kind::DecisionKind;
+
+#[derive(Clone, Copy)]
+pub enum PacketDecision {
+    Discard,
+    Accept,
+}
+
+pub impl DecisionKind for PacketDecision as PacketDecisionKind {
+    ghost count = { 2 };
+    ghost number = { packet-number };
+
+    const COUNT: usize = 2;
+
+    fn decision_count() -> usize {
+        PacketDecisionKind::COUNT
+    }
+
+    fn number(&self) -> u8 {
+        match self {
+            PacketDecision::Discard => 0,
+            PacketDecision::Accept => 1,
+        }
+    }
+
+    fn make(given: u32) -> Result<PacketDecision, Decline> {
+        match given {
+            0 => Ok(PacketDecision::Discard),
+            1 => Ok(PacketDecision::Accept),
+            _ => Err(Decline::NotOfKind),
+        }
+    }
+}
