@@ -61,60 +61,76 @@ add-keeps xs y some run sound =
       wide-end = same-end xs (inserted xs i y) (ap (λ r. r .clauses) end) (sound .wide-end);
     }
 
+-- the last rule keeps its clauses under each edit
+pub change-end : (xs : List Rule) (place decision : ℕ) → 1 ≤ place → place ≤ length xs
+    → rule-at (edited xs (Change place decision)) (length (edited xs (Change place decision))) .clauses ≡ rule-at xs (length xs) .clauses
+change-end xs place decision low high =
+    let i : ℕ = place - 1 in
+    let y : Rule = with-decision (rule-at xs place) decision in
+    let within : i < length xs = omega arith in
+    let n : ℕ = length xs - 1 in
+    let long = length-set xs i y in
+    let last : length (set xs i y) - 1 ≡ n = omega arith in
+    ap (λ k. getD (set xs i y) k blank .clauses) last
+    ∙ ⊎-elim
+      (λ e. ap (λ k. getD (set xs i y) k blank .clauses) e ∙ ap (λ r. r .clauses) (getD-set-same xs i y blank within) ∙ ap (λ k. getD xs k blank .clauses) (sym e))
+      (λ ne. ap (λ r. r .clauses) (getD-set-other xs i n y blank ne))
+      (cases-eq n i)
+
+pub swap-end : (xs : List Rule) (first second : ℕ) → 1 ≤ first → first < second → second < length xs
+    → rule-at (edited xs (Swap first second)) (length (edited xs (Swap first second))) .clauses ≡ rule-at xs (length xs) .clauses
+swap-end xs first second low order high =
+    let i : ℕ = first - 1 in
+    let j : ℕ = second - 1 in
+    let ys : List Rule = exchanged xs i j in
+    let swapped = swapped-from-exchanged xs ys i j blank (omega arith) (omega arith) refl in
+    let n : ℕ = length xs - 1 in
+    let long = length-exchanged xs i j in
+    let last : length ys - 1 ≡ n = omega arith in
+    ap (λ k. getD ys k blank .clauses) last ∙ ap (λ r. r .clauses) (swapped .2 n (λ e. omega arith) (λ e. omega arith))
+
+pub delete-end : (xs : List Rule) (place : ℕ) → 1 ≤ place → place < length xs
+    → rule-at (edited xs (Delete place)) (length (edited xs (Delete place))) .clauses ≡ rule-at xs (length xs) .clauses
+delete-end xs place low high =
+    let i : ℕ = place - 1 in
+    let ys : List Rule = removed xs i in
+    let within : i < length xs = omega arith in
+    let long = length-removed xs i within in
+    let k : ℕ = length xs - 2 in
+    let last : length ys - 1 ≡ k = omega arith in
+    let next : k + 1 ≡ length xs - 1 = omega arith in
+    ap (λ m. getD ys m blank .clauses) last ∙ ap (λ r. r .clauses) (getD-removed-above xs i blank k (omega arith) within ∙ ap (λ m. getD xs m blank) next)
+
 pub change-keeps : (xs : List Rule) (place decision : ℕ) → 1 ≤ place → place ≤ length xs → Sound xs → Sound (edited xs (Change place decision))
 change-keeps xs place decision low high sound =
     let i : ℕ = place - 1 in
     let y : Rule = with-decision (rule-at xs place) decision in
-    let within : i < length xs = omega arith in
     let all = every-all forward-rule xs (sound .forward) in
-    let run : forward-rule y ≡ true = all-getD passes xs i blank within all in
-    let long = length-set xs i y in
-    let n : ℕ = length xs - 1 in
-    let last : length (set xs i y) - 1 ≡ n = omega arith in
-    let end : getD (set xs i y) n blank .clauses ≡ getD xs n blank .clauses
-        = ⊎-elim
-          (λ e. ap (λ k. getD (set xs i y) k blank .clauses) e ∙ ap (λ r. r .clauses) (getD-set-same xs i y blank within) ∙ ap (λ k. getD xs k blank .clauses) (sym e))
-          (λ ne. ap (λ r. r .clauses) (getD-set-other xs i n y blank ne))
-          (cases-eq n i) in
     record {
-      forward = all-every forward-rule (set xs i y) (all-set passes xs i y run all);
-      wide-end = same-end xs (set xs i y) (ap (λ k. getD (set xs i y) k blank .clauses) last ∙ end) (sound .wide-end);
+      forward = all-every forward-rule (set xs i y) (all-set passes xs i y (all-getD passes xs i blank (omega arith) all) all);
+      wide-end = same-end xs (set xs i y) (change-end xs place decision low high) (sound .wide-end);
     }
 
 pub swap-keeps : (xs : List Rule) (first second : ℕ) → 1 ≤ first → first < second → second < length xs → Sound xs → Sound (edited xs (Swap first second))
 swap-keeps xs first second low order high sound =
     let i : ℕ = first - 1 in
     let j : ℕ = second - 1 in
-    let ys : List Rule = exchanged xs i j in
     let iin : i < length xs = omega arith in
     let jin : j < length xs = omega arith in
     let all = every-all forward-rule xs (sound .forward) in
-    let is = exchanged-is xs i j blank iin jin in
-    let swapped = swapped-from-exchanged xs ys i j blank iin jin refl in
-    let long = length-exchanged xs i j in
-    let n : ℕ = length xs - 1 in
-    let last : length ys - 1 ≡ n = omega arith in
-    let end : getD ys n blank ≡ getD xs n blank = swapped .2 n (λ e. omega arith) (λ e. omega arith) in
     let parts = all-set passes (set xs i (getD xs j blank)) j (getD xs i blank) (all-getD passes xs i blank iin all) (all-set passes xs i (getD xs j blank) (all-getD passes xs j blank jin all) all) in
     record {
-      forward = all-every forward-rule ys (subst (All passes) is parts);
-      wide-end = same-end xs ys (ap (λ k. getD ys k blank .clauses) last ∙ ap (λ r. r .clauses) end) (sound .wide-end);
+      forward = all-every forward-rule (exchanged xs i j) (subst (All passes) (exchanged-is xs i j blank iin jin) parts);
+      wide-end = same-end xs (exchanged xs i j) (swap-end xs first second low order high) (sound .wide-end);
     }
 
 pub delete-keeps : (xs : List Rule) (place : ℕ) → 1 ≤ place → place < length xs → Sound xs → Sound (edited xs (Delete place))
 delete-keeps xs place low high sound =
     let i : ℕ = place - 1 in
-    let ys : List Rule = removed xs i in
-    let within : i < length xs = omega arith in
     let all = every-all forward-rule xs (sound .forward) in
-    let long = length-removed xs i within in
-    let k : ℕ = length xs - 2 in
-    let last : length ys - 1 ≡ k = omega arith in
-    let next : k + 1 ≡ length xs - 1 = omega arith in
-    let end : getD ys k blank ≡ getD xs (length xs - 1) blank = getD-removed-above xs i blank k (omega arith) within ∙ ap (λ m. getD xs m blank) next in
     record {
-      forward = all-every forward-rule ys (all-append passes (take i xs) (drop (suc i) xs) (all-take passes i xs all) (all-drop passes (suc i) xs all));
-      wide-end = same-end xs ys (ap (λ m. getD ys m blank .clauses) last ∙ ap (λ r. r .clauses) end) (sound .wide-end);
+      forward = all-every forward-rule (removed xs i) (all-append passes (take i xs) (drop (suc i) xs) (all-take passes i xs all) (all-drop passes (suc i) xs all));
+      wide-end = same-end xs (removed xs i) (delete-end xs place low high) (sound .wide-end);
     }
 
 -- the facts of a `RuleList`, from those of its list of rules
