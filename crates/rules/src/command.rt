@@ -10,6 +10,7 @@ ghost use Rattle.rules.specs.Commands.{command-ranges};
 use crate::decline::Decline;
 use crate::interval::Interval;
 use crate::kind::RequestKind;
+use std::fmt;
 
 #[derive(Clone, Copy)]
 pub struct Command {
@@ -106,5 +107,17 @@ pub impl RequestKind for Command as CommandKind {
             return Err(Decline::NotOfKind);
         };
         Command::new(*code, *level, *command, *loop_number, *minute)
+    }
+}
+
+// Each field by its name, as "code 150, level 3, command 7, loop 2, minute 600".
+pub impl fmt::Display for Command as CommandDisplay {
+    fn fmt<W: fmt::Write>(&self, f: &mut fmt::Formatter<W>) -> fmt::Result {
+        let code = self.code;
+        let level = self.level;
+        let command = self.command;
+        let on = self.loop_number;
+        let minute = self.minute;
+        write!(f, "code {code}, level {level}, command {command}, loop {on}, minute {minute}")
     }
 }

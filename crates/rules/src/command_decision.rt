@@ -3,6 +3,7 @@ ghost use Rattle.rules.specs.Commands.{command-number};
 use crate::decline::Decline;
 use crate::kind::DecisionKind;
 use crate::minutes::Minutes;
+use std::fmt;
 
 #[derive(Clone, Copy)]
 pub enum CommandDecision {
@@ -34,6 +35,20 @@ pub impl DecisionKind for CommandDecision as CommandDecisionKind {
             0 => Ok(CommandDecision::Refuse),
             1 => Ok(CommandDecision::Hold),
             _ => Ok(CommandDecision::Permit(Minutes::new(given - 1)?)),
+        }
+    }
+}
+
+// In the words of the table text, as "hold" or "permit 30".
+pub impl fmt::Display for CommandDecision as CommandDecisionDisplay {
+    fn fmt<W: fmt::Write>(&self, f: &mut fmt::Formatter<W>) -> fmt::Result {
+        match self {
+            CommandDecision::Refuse => write!(f, "refuse"),
+            CommandDecision::Hold => write!(f, "hold"),
+            CommandDecision::Permit(minutes) => {
+                let value = minutes.value();
+                write!(f, "permit {value}")
+            }
         }
     }
 }

@@ -2,6 +2,7 @@
 // The numbers are listed once, in specs/Declines.antt, and the contracts of every crate use that list.
 ghost use mathlib.Core.Path.{_≡_};
 ghost use Rattle.rules.specs.Declines.{number-of};
+use std::error::Error;
 use std::fmt;
 
 #[derive(Clone, Copy, PartialEq, Eq, Debug)]
@@ -90,3 +91,5 @@ pub impl fmt::Display for Decline as DeclineDisplay {
         write!(f, "declined {number}: {meaning}")
     }
 }
+
+pub impl Error for Decline as DeclineError {}

@@ -4,7 +4,7 @@ ghost use mathlib.Core.Bool.{true};
 ghost use mathlib.Core.List.{[], _∷_};
 ghost use Prim.Native.Nat.{_≤_};
 ghost use lib.ListN.{length, take};
-ghost use Rattle.std.specs.Vec.{made};
+ghost use Rattle.std.specs.Vec.{made, refused};
 ghost use Rattle.rules.specs.Adding.{Added, clauses-decline, given-rule};
 ghost use Rattle.rules.specs.Declines.{declined};
 ghost use Rattle.rules.specs.Intervals.{every, forward};
@@ -18,7 +18,6 @@ use crate::limits::Limits;
 use crate::rule::Rule;
 use crate::rule_list::RuleList;
 use crate::table::Table;
-use std::alloc::AllocError;
 use std::alloc::Global;
 use std::marker::PhantomData;
 
@@ -56,12 +55,16 @@ fn asked(clauses: &[Interval], fields: usize) -> [Interval; 6]
 }
 
 impl<Q: RequestKind, D: DecisionKind> Draft<Q, D> {
-    // A draft of the default alone, which matches every request. All the memory that it will need is claimed here.
-    pub fn new(heap: Global, default: D) -> Result<Draft<Q, D>, AllocError>
-        ensures { λ r. ⌜ made r (λ draft. draft-rules (Q·RequestKind .ranges) (D·DecisionKind .count) draft ≡ record { clauses = Q·RequestKind .ranges; decision = D·DecisionKind .number default } ∷ []) ⌝ }
+    // A draft of the default alone, which matches every request. All the memory that it will need is claimed here:
+    // declined 99 where there is not enough.
+    pub fn new(heap: Global, default: D) -> Result<Draft<Q, D>, Decline>
+        ensures rules { λ r. ⌜ made r (λ draft. draft-rules (Q·RequestKind .ranges) (D·DecisionKind .count) draft ≡ record { clauses = Q·RequestKind .ranges; decision = D·DecisionKind .number default } ∷ []) ⌝ }
+        ensures wants { λ r. ⌜ refused r (λ decline. decline ≡ Decline.NoMemory) ⌝ }
     {
-        let list = RuleList::new(heap, Limits::of::<Q, D>(), default.number())?;
-        Ok(Draft { list, kinds: PhantomData })
+        match RuleList::new(heap, Limits::of::<Q, D>(), default.number()) {
+            Ok(list) => Ok(Draft { list, kinds: PhantomData }),
+            Err(_) => Err(Decline::NoMemory),
+        }
     }
 
     // Adds a rule directly above the default. Clauses past the kind's fields are not asked.

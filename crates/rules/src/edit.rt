@@ -2,6 +2,7 @@
 ghost use mathlib.Core.Path.{_≡_};
 ghost use Rattle.rules.specs.Edits.{plain-edit};
 use crate::kind::DecisionKind;
+use std::fmt;
 
 #[derive(Clone, Copy, Drop)]
 pub enum Edit<D> {
@@ -28,6 +29,17 @@ impl<D: DecisionKind> Edit<D> {
                 second: *second,
             },
             Edit::Delete { place } => Edit::Delete { place: *place },
+        }
+    }
+}
+
+// As "swap 1, 2".
+pub impl<D: fmt::Display> fmt::Display for Edit<D> as EditDisplay {
+    fn fmt<W: fmt::Write>(&self, f: &mut fmt::Formatter<W>) -> fmt::Result {
+        match self {
+            Edit::Change { place, decision } => write!(f, "change {place} to {decision}"),
+            Edit::Swap { first, second } => write!(f, "swap {first}, {second}"),
+            Edit::Delete { place } => write!(f, "delete {place}"),
         }
     }
 }

@@ -21,8 +21,8 @@ pub struct Limits {
     ghost bounded: { decisions ≤ 256 },
 }
 
-// The ranges of a kind's fields, from the start of the array.
-fn ranges_of<Q: RequestKind>() -> [Interval; 6]
+// The clauses of a rule that matches every request of the kind: its ranges, from the start of the array.
+pub fn whole_ranges<Q: RequestKind>() -> [Interval; 6]
     ensures { λ r. ⌜ take (length (Q·RequestKind .ranges)) r ≡ Q·RequestKind .ranges ⌝ }
 {
     let mut ranges = [Interval { lower: 0, upper: 0 }; 6];
@@ -41,7 +41,7 @@ impl Limits {
         ensures decisions { λ r. ⌜ r .decisions ≡ D·DecisionKind .count ⌝ }
     {
         Limits {
-            ranges: ranges_of::<Q>(),
+            ranges: whole_ranges::<Q>(),
             fields: Q::field_count(),
             decisions: D::decision_count(),
         }

@@ -2,6 +2,7 @@
 ghost use Rattle.rules.specs.Packets.{packet-number};
 use crate::decline::Decline;
 use crate::kind::DecisionKind;
+use std::fmt;
 
 #[derive(Clone, Copy)]
 pub enum PacketDecision {
@@ -31,6 +32,16 @@ pub impl DecisionKind for PacketDecision as PacketDecisionKind {
             0 => Ok(PacketDecision::Discard),
             1 => Ok(PacketDecision::Accept),
             _ => Err(Decline::NotOfKind),
+        }
+    }
+}
+
+// In the words of the table text.
+pub impl fmt::Display for PacketDecision as PacketDecisionDisplay {
+    fn fmt<W: fmt::Write>(&self, f: &mut fmt::Formatter<W>) -> fmt::Result {
+        match self {
+            PacketDecision::Discard => write!(f, "discard"),
+            PacketDecision::Accept => write!(f, "accept"),
         }
     }
 }

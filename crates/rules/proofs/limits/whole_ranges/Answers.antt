@@ -2,8 +2,8 @@ use mathlib.Core.Path.{refl}
 use native.Mathlib.Omega.{arith}
 use Rattle.rules.specs.Intervals.{from-to}
 use Rattle.rules.proofs.Gathered.{gathered-more, gathered-none, gathered-all}
-use Rattle.rules.proofs.limits.ranges_of.Needs as need
-use Rattle.rules.proofs.limits.ranges_of.Needs.{in-Some, in-rest}
+use Rattle.rules.proofs.limits.whole_ranges.Needs as need
+use Rattle.rules.proofs.limits.whole_ranges.Needs.{in-Some, in-rest}
 
 pub loop-k-again : need.loop-k-again
 loop-k-again g c =
