@@ -1,13 +1,13 @@
 // The example table and its three handover tests.
-use rules::command::Command;
-use rules::command::CommandKind;
-use rules::command_decision::CommandDecision;
-use rules::command_decision::CommandDecisionKind;
+use kinds::command::Command;
+use kinds::command::CommandKind;
+use kinds::command_decision::CommandDecision;
+use kinds::command_decision::CommandDecisionKind;
 use rules::decline::Decline;
 use rules::draft::Draft;
 use rules::interval::Interval;
 use rules::limits::whole_ranges;
-use rules::minutes::Minutes;
+use kinds::minutes::Minutes;
 use rules::table::Table;
 use rules::test::Test;
 use std::alloc::Global;

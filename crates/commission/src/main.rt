@@ -6,9 +6,9 @@ mod words;
 use judges::judge::Judge;
 use judges::scan::Scan;
 use judges::scan::ScanJudge;
-use rules::command::Command;
-use rules::command_decision::CommandDecision;
-use rules::command_decision::CommandDecisionDisplay;
+use kinds::command::Command;
+use kinds::command_decision::CommandDecision;
+use kinds::command_decision::CommandDecisionDisplay;
 use rules::decline::DeclineDisplay;
 use rules::decline::DeclineError;
 use rules::edit::Edit;
@@ -17,8 +17,8 @@ use rules::test::Test;
 use std::error::AnyError;
 use words::Judged;
 use words::JudgedDisplay;
-use rules::command::CommandKind;
-use rules::command_decision::CommandDecisionKind;
+use kinds::command::CommandKind;
+use kinds::command_decision::CommandDecisionKind;
 
 // Judges each test and says which pass.
 fn judge_all(rt: &LibcRuntime, panel: &Scan<Command, CommandDecision>, tests: &[Test<Command, CommandDecision>]) -> Result<(), AnyError> {

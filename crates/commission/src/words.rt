@@ -1,10 +1,10 @@
 // A judged test in words.
 use judges::verdict::Verdict;
-use rules::command::Command;
-use rules::command::CommandDisplay;
-use rules::command_decision::CommandDecision;
-use rules::command_decision::CommandDecisionDisplay;
-use rules::command_decision::CommandDecisionKind;
+use kinds::command::Command;
+use kinds::command::CommandDisplay;
+use kinds::command_decision::CommandDecision;
+use kinds::command_decision::CommandDecisionDisplay;
+use kinds::command_decision::CommandDecisionKind;
 use rules::test::Test;
 use std::fmt;
 

@@ -6,7 +6,6 @@ pub mod Declining
 pub mod Gathered
 pub mod Insides
 pub mod Kept
-pub mod Lists
 pub mod Making
 pub mod Matching
 pub mod Telling

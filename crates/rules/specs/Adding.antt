@@ -2,7 +2,7 @@
 use Prim.Native.Nat.{ℕ}
 use mathlib.Core.Path.{_≡_}
 use mathlib.Core.Bool.{not}
-use mathlib.Core.List.{List, [], _∷_}
+use mathlib.Core.List.{List, [], _∷_, _++_}
 use lib.Dec.{leb}
 use lib.ListN.{length, take}
 use Rattle.std.specs.declared.option.Option.{Option}
@@ -40,3 +40,6 @@ given-rule ranges clauses decision = record { clauses = take (length ranges) cla
 pub record Added (ranges : List Interval) (before : List Rule) (clauses : List Interval) (decision : ℕ) (answer : Option Decline) (after : List Rule) : Type 0 where
   pub declines : answer ≡ add-decline ranges (length before) clauses
   pub leaves : after ≡ left-by answer (above-default before (given-rule ranges clauses decision)) before
+  -- a draft is the rules accepted so far, in the order in which they were added, and then its default
+  pub in-order : (accepted : List Rule) (default : Rule) → before ≡ accepted ++ (default ∷ [])
+    → after ≡ left-by answer ((accepted ++ (given-rule ranges clauses decision ∷ [])) ++ (default ∷ [])) before

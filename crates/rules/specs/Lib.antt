@@ -1,10 +1,8 @@
 pub mod Adding
-pub mod Commands
 pub mod Declines
 pub mod Edits
 pub mod Intervals
 pub mod Kinds
 pub mod Limits
-pub mod Packets
 pub mod Rules
 pub mod Tables

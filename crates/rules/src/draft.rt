@@ -70,7 +70,8 @@ impl<Q: RequestKind, D: DecisionKind> Draft<Q, D> {
     // Adds a rule directly above the default. Clauses past the kind's fields are not asked.
     // Declined 7 where there are 63 rules already, then field by field 5 and 6; the draft is then as it was.
     pub fn add(&mut self, clauses: [Interval; 6], decision: D) -> Result<(), Decline>
-        ensures { λ r. ⌜ Added (Q·RequestKind .ranges) (draft-rules (Q·RequestKind .ranges) (D·DecisionKind .count) (now (self .entry))) clauses (D·DecisionKind .number decision) (declined r) (draft-rules (Q·RequestKind .ranges) (D·DecisionKind .count) (now (self .exit))) ⌝ }
+        ensures added { λ r. ⌜ Added (Q·RequestKind .ranges) (draft-rules (Q·RequestKind .ranges) (D·DecisionKind .count) (now (self .entry))) clauses (D·DecisionKind .number decision) (declined r) (draft-rules (Q·RequestKind .ranges) (D·DecisionKind .count) (now (self .exit))) ⌝ }
+        ensures same { λ r. ⌜ refused r (λ _. now (self .exit) ≡ now (self .entry)) ⌝ }
     {
         if self.list.rules.len() >= 64 {
             return Err(Decline::Full);
