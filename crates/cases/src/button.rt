@@ -16,6 +16,7 @@ pub(crate) struct Button {
 
 pub(crate) impl RequestKind for Button as ButtonKind {
     ghost ranges = { from-to 7 9 ∷ [] };
+
     ghost values = { λ q. q .number ∷ [] };
 
     const FIELDS: usize = 1;
@@ -26,7 +27,7 @@ pub(crate) impl RequestKind for Button as ButtonKind {
 
     fn range(field: usize) -> Option<Interval> {
         match field {
-            1 => Some(Interval { lower: 7, upper: 9 }),
+            1 => Some(Interval::new(7, 9)),
             _ => None,
         }
     }
@@ -45,7 +46,9 @@ pub(crate) impl RequestKind for Button as ButtonKind {
         if *number < 7 || *number > 9 {
             return Err(Decline::NotOfKind);
         }
-        Ok(Button { number: *number as u8 })
+        Ok(Button {
+            number: *number as u8,
+        })
     }
 }
 
@@ -56,6 +59,7 @@ pub(crate) enum Never {
 
 pub(crate) impl DecisionKind for Never as NeverKind {
     ghost count = { 1 };
+
     ghost number = { λ _. 0 };
 
     const COUNT: usize = 1;

@@ -1,12 +1,12 @@
 // Drafts: each decline of adding a rule and their order, and 63 rules beside the default.
-use rules::decline::DeclineDebug;
-use kinds::command_decision::CommandDecisionKind;
-use kinds::command::CommandKind;
 use crate::example::declined;
 use crate::example::only;
 use kinds::command::Command;
+use kinds::command::CommandKind;
 use kinds::command_decision::CommandDecision;
+use kinds::command_decision::CommandDecisionKind;
 use rules::decline::Decline;
+use rules::decline::DeclineDebug;
 use rules::draft::Draft;
 use rules::interval::Interval;
 use std::alloc::Global;
@@ -39,7 +39,10 @@ const CLAUSES: [(usize, u32, u32, u8); 15] = [
 fn each_clause_is_checked(rt: LibcRuntime) -> Result<(), Fail> {
     for (field, lower, upper, number) in CLAUSES.iter() {
         let mut draft = draft(rt.alloc())?;
-        check_eq(declined(draft.add(only(*field, *lower, *upper), CommandDecision::Hold)), *number)?;
+        check_eq(
+            declined(draft.add(only(*field, *lower, *upper), CommandDecision::Hold)),
+            *number,
+        )?;
         let expected = if *number == 0 { 2 } else { 1 };
         check_eq(draft.close().count(), expected)?;
     }
@@ -50,9 +53,9 @@ fn each_clause_is_checked(rt: LibcRuntime) -> Result<(), Fail> {
 fn fields_are_checked_in_order(rt: LibcRuntime) -> Result<(), Fail> {
     let mut draft = draft(rt.alloc())?;
     let mut clauses = only(0, 2, 1);
-    clauses[1] = Interval { lower: 0, upper: 9 };
+    clauses[1] = Interval::new(0, 9);
     check_eq(declined(draft.add(clauses, CommandDecision::Hold)), 6)?;
-    clauses[0] = Interval { lower: 1, upper: 2 };
+    clauses[0] = Interval::new(1, 2);
     check_eq(declined(draft.add(clauses, CommandDecision::Hold)), 5)
 }
 
@@ -62,8 +65,14 @@ fn sixty_three_rules_beside_the_default(rt: LibcRuntime) -> Result<(), Fail> {
     for k in 0..63u32 {
         draft.add(only(0, k, k), CommandDecision::Hold)?;
     }
-    check_eq(declined(draft.add(only(0, 63, 63), CommandDecision::Hold)), 7)?;
-    check_eq(declined(draft.add(only(0, 10000, 0), CommandDecision::Hold)), 7)?;
+    check_eq(
+        declined(draft.add(only(0, 63, 63), CommandDecision::Hold)),
+        7,
+    )?;
+    check_eq(
+        declined(draft.add(only(0, 10000, 0), CommandDecision::Hold)),
+        7,
+    )?;
     check_eq(draft.close().count(), 64)
 }
 

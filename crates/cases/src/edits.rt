@@ -1,11 +1,11 @@
 // Edits of the example table, which has four rules: each decline, the order of the checks, and what an accepted edit leaves.
-use rules::decline::DeclineDebug;
-use kinds::command_decision::CommandDecisionKind;
-use kinds::command::CommandKind;
 use crate::example::declined;
 use crate::example::table;
 use kinds::command::Command;
+use kinds::command::CommandKind;
 use kinds::command_decision::CommandDecision;
+use kinds::command_decision::CommandDecisionKind;
+use rules::decline::DeclineDebug;
 use rules::edit::Edit;
 use rules::kind::DecisionKind;
 use rules::table::Table;
@@ -29,10 +29,26 @@ const SWAPS: [(usize, usize, u8); 13] = [
 ];
 
 // A place, and the number with which deleting its rule is declined.
-const DELETIONS: [(usize, u8); 6] = [(0, 10), (1, 0), (3, 0), (4, 11), (5, 10), (18446744073709551615, 10)];
+const DELETIONS: [(usize, u8); 6] = [
+    (0, 10),
+    (1, 0),
+    (3, 0),
+    (4, 11),
+    (5, 10),
+    (18446744073709551615, 10),
+];
 
 // A place, the number of a decision, and the number with which the change is declined.
-const CHANGES: [(usize, u32, u8); 8] = [(0, 1, 10), (5, 1, 10), (1, 1, 13), (1, 0, 0), (2, 31, 13), (3, 11, 13), (4, 0, 13), (4, 241, 0)];
+const CHANGES: [(usize, u32, u8); 8] = [
+    (0, 1, 10),
+    (5, 1, 10),
+    (1, 1, 13),
+    (1, 0, 0),
+    (2, 31, 13),
+    (3, 11, 13),
+    (4, 0, 13),
+    (4, 241, 0),
+];
 
 // The numbers of the decisions at places 1 to 4, 255 where there is no rule.
 fn decisions(table: &Table<Command, CommandDecision>) -> [u8; 4] {
@@ -49,7 +65,15 @@ fn decisions(table: &Table<Command, CommandDecision>) -> [u8; 4] {
 fn swaps(rt: LibcRuntime) -> Result<(), Fail> {
     for (first, second, number) in SWAPS.iter() {
         let mut table = table(rt.alloc())?;
-        check_eq(declined(table.edit(&Edit::Swap { first: *first, second: *second })), *number)?;
+        check_eq(
+            declined(table.edit(
+                &Edit::Swap {
+                    first: *first,
+                    second: *second,
+                },
+            )),
+            *number,
+        )?;
         if *number != 0 {
             check_eq(decisions(&table), [1, 31, 11, 0])?;
         }
@@ -61,7 +85,10 @@ fn swaps(rt: LibcRuntime) -> Result<(), Fail> {
 fn deletions(rt: LibcRuntime) -> Result<(), Fail> {
     for (place, number) in DELETIONS.iter() {
         let mut table = table(rt.alloc())?;
-        check_eq(declined(table.edit(&Edit::Delete { place: *place })), *number)?;
+        check_eq(
+            declined(table.edit(&Edit::Delete { place: *place })),
+            *number,
+        )?;
         if *number != 0 {
             check_eq(decisions(&table), [1, 31, 11, 0])?;
         }
@@ -73,7 +100,10 @@ fn deletions(rt: LibcRuntime) -> Result<(), Fail> {
 fn changes(rt: LibcRuntime) -> Result<(), Fail> {
     for (place, decision, number) in CHANGES.iter() {
         let mut table = table(rt.alloc())?;
-        let edit = Edit::Change { place: *place, decision: CommandDecision::make(*decision)? };
+        let edit = Edit::Change {
+            place: *place,
+            decision: CommandDecision::make(*decision)?,
+        };
         check_eq(declined(table.edit(&edit)), *number)?;
         if *number != 0 {
             check_eq(decisions(&table), [1, 31, 11, 0])?;
@@ -85,9 +115,19 @@ fn changes(rt: LibcRuntime) -> Result<(), Fail> {
 #[test]
 fn accepted_edits(rt: LibcRuntime) -> Result<(), Fail> {
     let mut table = table(rt.alloc())?;
-    table.edit(&Edit::Swap { first: 1, second: 3 })?;
+    table.edit(
+        &Edit::Swap {
+            first: 1,
+            second: 3,
+        },
+    )?;
     check_eq(decisions(&table), [11, 31, 1, 0])?;
-    table.edit(&Edit::Change { place: 4, decision: CommandDecision::Hold })?;
+    table.edit(
+        &Edit::Change {
+            place: 4,
+            decision: CommandDecision::Hold,
+        },
+    )?;
     check_eq(decisions(&table), [11, 31, 1, 1])?;
     table.edit(&Edit::Delete { place: 2 })?;
     check_eq(decisions(&table), [11, 1, 1, 255])?;

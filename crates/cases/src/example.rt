@@ -1,8 +1,8 @@
 // The example table that the cases start from, and the number with which a call was declined.
-use kinds::command_decision::CommandDecisionKind;
-use kinds::command::CommandKind;
 use kinds::command::Command;
+use kinds::command::CommandKind;
 use kinds::command_decision::CommandDecision;
+use kinds::command_decision::CommandDecisionKind;
 use kinds::minutes::Minutes;
 use rules::decline::Decline;
 use rules::draft::Draft;
@@ -19,7 +19,7 @@ pub(crate) fn permit(minutes: u32) -> Result<CommandDecision, Decline> {
 pub(crate) fn only(field: usize, lower: u32, upper: u32) -> [Interval; 6] {
     let mut clauses = whole_ranges::<Command>();
     if field < 6 {
-        clauses[field] = Interval { lower, upper };
+        clauses[field] = Interval::new(lower, upper);
     }
     clauses
 }
@@ -29,7 +29,7 @@ pub(crate) fn table(heap: Global) -> Result<Table<Command, CommandDecision>, Dec
     let mut draft = Draft::new(heap, CommandDecision::Refuse)?;
     draft.add(only(0, 100, 199), CommandDecision::Hold)?;
     let mut engineer = only(0, 150, 150);
-    engineer[1] = Interval { lower: 3, upper: 4 };
+    engineer[1] = Interval::new(3, 4);
     draft.add(engineer, permit(30)?)?;
     draft.add(only(3, 5, 5), permit(10)?)?;
     Ok(draft.close())

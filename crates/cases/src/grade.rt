@@ -13,6 +13,7 @@ pub(crate) struct Grade {
 
 pub(crate) impl DecisionKind for Grade as GradeKind {
     ghost count = { 256 };
+
     ghost number = { λ d. d .value };
 
     const COUNT: usize = 256;

@@ -1,15 +1,15 @@
 // Making requests and decisions: each range at both ends and one past them.
-use rules::decline::DeclineDebug;
-use kinds::packet_decision::PacketDecisionKind;
-use kinds::packet::PacketKind;
-use kinds::command_decision::CommandDecisionKind;
-use kinds::command::CommandKind;
 use crate::example::declined;
 use kinds::command::Command;
+use kinds::command::CommandKind;
 use kinds::command_decision::CommandDecision;
+use kinds::command_decision::CommandDecisionKind;
 use kinds::minutes::Minutes;
 use kinds::packet::Packet;
+use kinds::packet::PacketKind;
 use kinds::packet_decision::PacketDecision;
+use kinds::packet_decision::PacketDecisionKind;
+use rules::decline::DeclineDebug;
 use rules::kind::DecisionKind;
 use rules::kind::RequestKind;
 use std::test::*;

@@ -22,6 +22,7 @@ pub(crate) struct Reading {
 
 pub(crate) impl RequestKind for Reading as ReadingKind {
     ghost ranges = { reading-ranges };
+
     ghost values = { λ q. q .a ∷ q .b ∷ q .c ∷ q .d ∷ q .e ∷ q .f ∷ [] };
 
     const FIELDS: usize = 6;
@@ -32,12 +33,12 @@ pub(crate) impl RequestKind for Reading as ReadingKind {
 
     fn range(field: usize) -> Option<Interval> {
         match field {
-            1 => Some(Interval { lower: 0, upper: 4294967295 }),
-            2 => Some(Interval { lower: 5, upper: 5 }),
-            3 => Some(Interval { lower: 0, upper: 1 }),
-            4 => Some(Interval { lower: 10, upper: 20 }),
-            5 => Some(Interval { lower: 4294967294, upper: 4294967295 }),
-            6 => Some(Interval { lower: 1, upper: 1000 }),
+            1 => Some(Interval::new(0, 4294967295)),
+            2 => Some(Interval::new(5, 5)),
+            3 => Some(Interval::new(0, 1)),
+            4 => Some(Interval::new(10, 20)),
+            5 => Some(Interval::new(4294967294, 4294967295)),
+            6 => Some(Interval::new(1, 1000)),
             _ => None,
         }
     }
@@ -61,6 +62,13 @@ pub(crate) impl RequestKind for Reading as ReadingKind {
         if *b != 5 || *c > 1 || *d < 10 || *d > 20 || *e < 4294967294 || *f < 1 || *f > 1000 {
             return Err(Decline::NotOfKind);
         }
-        Ok(Reading { a: *a, b: *b, c: *c, d: *d, e: *e, f: *f })
+        Ok(Reading {
+            a: *a,
+            b: *b,
+            c: *c,
+            d: *d,
+            e: *e,
+            f: *f,
+        })
     }
 }

@@ -1,15 +1,15 @@
 // The scan over the example table and over full tables: verdicts, judging under an edit, and the calls that need a layer.
-use rules::decline::DeclineDebug;
-use kinds::command_decision::CommandDecisionKind;
-use kinds::command::CommandKind;
-use judges::scan::ScanJudge;
 use crate::example::declined;
 use crate::example::only;
 use crate::example::table;
 use judges::judge::Judge;
 use judges::scan::Scan;
+use judges::scan::ScanJudge;
 use kinds::command::Command;
+use kinds::command::CommandKind;
 use kinds::command_decision::CommandDecision;
+use kinds::command_decision::CommandDecisionKind;
+use rules::decline::DeclineDebug;
 use rules::draft::Draft;
 use rules::edit::Edit;
 use rules::kind::DecisionKind;
@@ -19,26 +19,53 @@ use std::test::*;
 fn the_three_tests(rt: LibcRuntime) -> Result<(), Fail> {
     let scan = Scan::new(table(rt.alloc())?);
     let first = scan.judge(&Command::new(150, 3, 7, 2, 600)?);
-    check_eq((first.decision.number(), first.place, first.matching), (1, 1, 11))?;
+    check_eq(
+        (first.decision.number(), first.place, first.matching),
+        (1, 1, 11),
+    )?;
     let second = scan.judge(&Command::new(120, 2, 7, 2, 600)?);
-    check_eq((second.decision.number(), second.place, second.matching), (1, 1, 9))?;
+    check_eq(
+        (second.decision.number(), second.place, second.matching),
+        (1, 1, 9),
+    )?;
     let third = scan.judge(&Command::new(300, 2, 7, 5, 600)?);
-    check_eq((third.decision.number(), third.place, third.matching), (11, 3, 12))
+    check_eq(
+        (third.decision.number(), third.place, third.matching),
+        (11, 3, 12),
+    )
 }
 
 #[test]
 fn under_an_edit_and_after_it(rt: LibcRuntime) -> Result<(), Fail> {
     let mut scan = Scan::new(table(rt.alloc())?);
     let request = Command::new(150, 3, 7, 2, 600)?;
-    let swap = Edit::Swap { first: 1, second: 2 };
+    let swap = Edit::Swap {
+        first: 1,
+        second: 2,
+    };
     let under = scan.judge_under(&request, &swap)?;
-    check_eq((under.decision.number(), under.place, under.matching), (31, 1, 11))?;
+    check_eq(
+        (under.decision.number(), under.place, under.matching),
+        (31, 1, 11),
+    )?;
     check_eq(scan.judge(&request).decision.number(), 1)?;
     scan.edit(&swap)?;
     check_eq(scan.judge(&request).decision.number(), 31)?;
-    let delete = scan.judge_under(&Command::new(120, 2, 7, 2, 600)?, &Edit::Delete { place: 2 })?;
-    check_eq((delete.decision.number(), delete.place, delete.matching), (0, 3, 4))?;
-    let change = scan.judge_under(&request, &Edit::Change { place: 1, decision: CommandDecision::Hold })?;
+    let delete = scan.judge_under(
+        &Command::new(120, 2, 7, 2, 600)?,
+        &Edit::Delete { place: 2 },
+    )?;
+    check_eq(
+        (delete.decision.number(), delete.place, delete.matching),
+        (0, 3, 4),
+    )?;
+    let change = scan.judge_under(
+        &request,
+        &Edit::Change {
+            place: 1,
+            decision: CommandDecision::Hold,
+        },
+    )?;
     check_eq((change.decision.number(), change.place), (1, 1))
 }
 
@@ -46,10 +73,46 @@ fn under_an_edit_and_after_it(rt: LibcRuntime) -> Result<(), Fail> {
 fn declined_as_the_edit_would_be(rt: LibcRuntime) -> Result<(), Fail> {
     let scan = Scan::new(table(rt.alloc())?);
     let request = Command::new(150, 3, 7, 2, 600)?;
-    check_eq(declined(scan.judge_under(&request, &Edit::Swap { first: 1, second: 4 })), 11)?;
-    check_eq(declined(scan.judge_under(&request, &Edit::Swap { first: 2, second: 2 })), 12)?;
-    check_eq(declined(scan.judge_under(&request, &Edit::Swap { first: 0, second: 5 })), 10)?;
-    check_eq(declined(scan.judge_under(&request, &Edit::Change { place: 1, decision: CommandDecision::Hold })), 13)
+    check_eq(
+        declined(scan.judge_under(
+            &request,
+            &Edit::Swap {
+                first: 1,
+                second: 4,
+            },
+        )),
+        11,
+    )?;
+    check_eq(
+        declined(scan.judge_under(
+            &request,
+            &Edit::Swap {
+                first: 2,
+                second: 2,
+            },
+        )),
+        12,
+    )?;
+    check_eq(
+        declined(scan.judge_under(
+            &request,
+            &Edit::Swap {
+                first: 0,
+                second: 5,
+            },
+        )),
+        10,
+    )?;
+    check_eq(
+        declined(scan.judge_under(
+            &request,
+            &Edit::Change {
+                place: 1,
+                decision: CommandDecision::Hold,
+            },
+        )),
+        13,
+    )
 }
 
 #[test]
@@ -61,7 +124,10 @@ fn sixty_four_rules_that_match(rt: LibcRuntime) -> Result<(), Fail> {
     let scan = Scan::new(draft.close());
     check_eq(scan.count(), 64)?;
     let all = scan.judge(&Command::new(0, 1, 0, 0, 0)?);
-    check_eq((all.decision.number(), all.place, all.matching), (1, 1, 18446744073709551615))
+    check_eq(
+        (all.decision.number(), all.place, all.matching),
+        (1, 1, 18446744073709551615),
+    )
 }
 
 #[test]
@@ -72,7 +138,10 @@ fn the_default_at_place_sixty_four(rt: LibcRuntime) -> Result<(), Fail> {
     }
     let scan = Scan::new(draft.close());
     let last = scan.judge(&Command::new(0, 1, 0, 0, 0)?);
-    check_eq((last.decision.number(), last.place, last.matching), (0, 64, 9223372036854775808))
+    check_eq(
+        (last.decision.number(), last.place, last.matching),
+        (0, 64, 9223372036854775808),
+    )
 }
 
 #[test]

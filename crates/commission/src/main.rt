@@ -7,8 +7,10 @@ use judges::judge::Judge;
 use judges::scan::Scan;
 use judges::scan::ScanJudge;
 use kinds::command::Command;
+use kinds::command::CommandKind;
 use kinds::command_decision::CommandDecision;
 use kinds::command_decision::CommandDecisionDisplay;
+use kinds::command_decision::CommandDecisionKind;
 use rules::decline::DeclineDisplay;
 use rules::decline::DeclineError;
 use rules::edit::Edit;
@@ -17,25 +19,40 @@ use rules::test::Test;
 use std::error::AnyError;
 use words::Judged;
 use words::JudgedDisplay;
-use kinds::command::CommandKind;
-use kinds::command_decision::CommandDecisionKind;
 
 // Judges each test and says which pass.
-fn judge_all(rt: &LibcRuntime, panel: &Scan<Command, CommandDecision>, tests: &[Test<Command, CommandDecision>]) -> Result<(), AnyError> {
+fn judge_all(
+    rt: &LibcRuntime,
+    panel: &Scan<Command, CommandDecision>,
+    tests: &[Test<Command, CommandDecision>],
+) -> Result<(), AnyError> {
     for (k, test) in tests.iter().enumerate() {
         let verdict = panel.judge(&test.request);
-        let judged = Judged { number: k.saturating_add(1), test, verdict: &verdict };
+        let judged = Judged {
+            number: k.saturating_add(1),
+            test,
+            verdict: &verdict,
+        };
         println!(rt, "{judged}")?;
     }
     Ok(())
 }
 
 // Judges a test as if the edit had been made. The table stays as it is.
-fn judge_under(rt: &LibcRuntime, panel: &Scan<Command, CommandDecision>, test: &Test<Command, CommandDecision>, edit: &Edit<CommandDecision>) -> Result<(), AnyError> {
+fn judge_under(
+    rt: &LibcRuntime,
+    panel: &Scan<Command, CommandDecision>,
+    test: &Test<Command, CommandDecision>,
+    edit: &Edit<CommandDecision>,
+) -> Result<(), AnyError> {
     println!(rt, "If {edit} were made:")?;
     match panel.judge_under(&test.request, edit) {
         Ok(verdict) => {
-            let judged = Judged { number: 1, test, verdict: &verdict };
+            let judged = Judged {
+                number: 1,
+                test,
+                verdict: &verdict,
+            };
             println!(rt, "{judged}")?;
         }
         Err(decline) => println!(rt, "  {decline}")?,
@@ -44,7 +61,11 @@ fn judge_under(rt: &LibcRuntime, panel: &Scan<Command, CommandDecision>, test: &
 }
 
 // Makes an edit, or says how it was declined.
-fn make_edit(rt: &LibcRuntime, panel: &mut Scan<Command, CommandDecision>, edit: &Edit<CommandDecision>) -> Result<(), AnyError> {
+fn make_edit(
+    rt: &LibcRuntime,
+    panel: &mut Scan<Command, CommandDecision>,
+    edit: &Edit<CommandDecision>,
+) -> Result<(), AnyError> {
     match panel.edit(edit) {
         Ok(()) => println!(rt, "Edit {edit}: made")?,
         Err(decline) => println!(rt, "Edit {edit}: {decline}; the table is unchanged")?,
@@ -57,14 +78,34 @@ fn run(rt: &LibcRuntime) -> Result<(), AnyError> {
     let tests = example::tests()?;
     let mut panel = Scan::new(table);
     let count = panel.count();
-    println!(rt, "The example table has {count} rules, the default included.")?;
+    println!(
+        rt,
+        "The example table has {count} rules, the default included."
+    )?;
     judge_all(rt, &panel, &tests)?;
-    let swap = Edit::Swap { first: 1, second: 2 };
+    let swap = Edit::Swap {
+        first: 1,
+        second: 2,
+    };
     judge_under(rt, &panel, &tests[0], &swap)?;
     make_edit(rt, &mut panel, &swap)?;
     judge_all(rt, &panel, &tests)?;
-    make_edit(rt, &mut panel, &Edit::Swap { first: 1, second: 4 })?;
-    make_edit(rt, &mut panel, &Edit::Change { place: 2, decision: CommandDecision::Hold })
+    make_edit(
+        rt,
+        &mut panel,
+        &Edit::Swap {
+            first: 1,
+            second: 4,
+        },
+    )?;
+    make_edit(
+        rt,
+        &mut panel,
+        &Edit::Change {
+            place: 2,
+            decision: CommandDecision::Hold,
+        },
+    )
 }
 
 fn main(rt: LibcRuntime) -> Result<(), AnyError> {

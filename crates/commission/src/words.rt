@@ -24,7 +24,14 @@ pub impl fmt::Display for Judged<'_> as JudgedDisplay {
         let decision = self.verdict.decision;
         let place = self.verdict.place;
         let matching = self.verdict.matching;
-        let outcome = if self.test.passes(&decision) { "passes" } else { "fails" };
-        write!(f, "  test {number} ({request}): {decision}, by the rule at place {place}, matching set {matching}; expected {expected}: {outcome}")
+        let outcome = if self.test.passes(&decision) {
+            "passes"
+        } else {
+            "fails"
+        };
+        write!(
+            f,
+            "  test {number} ({request}): {decision}, by the rule at place {place}, matching set {matching}; expected {expected}: {outcome}"
+        )
     }
 }

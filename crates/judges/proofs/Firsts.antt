@@ -64,7 +64,7 @@ module _ (rules : List Rule) (values : List ℕ) where
       let small = so-far .0 in
       let shifted = one-shl k 64 few in
       let joined : bitOr set ((1 * 2 ^ k) % 2 ^ 64) ≡ 2 ^ k + set
-          = ap (bitOr set) shifted ∙ or-comm set (2 ^ k) ∙ ap (λ p. bitOr p set) (omega arith) ∙ or-shifted 1 k set small ∙ omega arith in
+      = ap (bitOr set) shifted ∙ or-comm set (2 ^ k) ∙ ap (λ p. bitOr p set) (omega arith) ∙ or-shifted 1 k set small ∙ omega arith in
       (omega arith, omega arith)
 
   pub set-end : (set k : ℕ) → length rules ≤ k → Bits-of set k → matching-set rules values ≡ set

@@ -25,21 +25,25 @@ record At-index (rules : List Rule) (values : List ℕ) (i : ℕ) : Type 0 where
   before : (j : ℕ) → j < i → matches (getD rules j blank) values ≡ false
 
 step : (rule : Rule) (rules : List Rule) (values : List ℕ) (b : Bool) → matches rule values ≡ b → (b ≡ false → (i : ℕ) × At-index rules values i) → (i : ℕ) × At-index (rule ∷ rules) values i
-step rule rules values true m later =
-    (0, record {
-      is = ap (λ b. cond b 1 (suc (first-match rules values))) m;
-      below = omega arith;
-      this = m;
-      before = λ j h. absurd (not-suc-le-zero h);
-    })
+step rule rules values true m later = (
+  0,
+  record {
+    is = ap (λ b. cond b 1 (suc (first-match rules values))) m;
+    below = omega arith;
+    this = m;
+    before = λ j h. absurd (not-suc-le-zero h);
+  },
+)
 step rule rules values false m later =
-    let rest = later refl in
-    (suc (rest .0), record {
-      is = ap (λ b. cond b 1 (suc (first-match rules values))) m ∙ ap suc (rest .1 .is);
-      below = let h = rest .1 .below in omega arith;
-      this = rest .1 .this;
-      before = before′ (rest .0) (rest .1);
-    })
+    let rest = later refl in (
+      suc (rest .0),
+      record {
+        is = ap (λ b. cond b 1 (suc (first-match rules values))) m ∙ ap suc (rest .1 .is);
+        below = let h = rest .1 .below in omega arith;
+        this = rest .1 .this;
+        before = before′ (rest .0) (rest .1);
+      },
+    )
   where
     before′ : (i : ℕ) → At-index rules values i → (j : ℕ) → j < suc i → matches (getD (rule ∷ rules) j blank) values ≡ false
     before′ i at zero h = m
@@ -65,7 +69,6 @@ first-found rules values p low high m =
       this = ap (λ n. matches (getD rules n blank) values) k ∙ at .this;
       none-above = λ q one above. at .before (q - 1) (omega arith);
     }
-
 
 bit-here : (b : Bool) (rest : ℕ) → bit (cond b 1 0 + 2 * rest) 0 ≡ b
 bit-here true rest =
@@ -99,17 +102,17 @@ no-more-bits (rule ∷ rules) values = within-bits (matches rule values) (matchi
 
 pub set-found : (rules : List Rule) (values : List ℕ) → Matching rules values (matching-set rules values)
 set-found rules values = record {
-    at-place = λ p low high. bits rules values (p - 1) (omega arith);
-    no-more = no-more-bits rules values;
-  }
+  at-place = λ p low high. bits rules values (p - 1) (omega arith);
+  no-more = no-more-bits rules values;
+}
 
 -- the computed answers on a table of which some rule matches
 pub judged : (m : Meaning) (values : List ℕ) {decision place set : ℕ} → First-match (m .rules) values (first-match (m .rules) values)
     → decision ≡ decided m values → place ≡ first-match (m .rules) values → set ≡ matching-set (m .rules) values → Judged m values decision place set
 judged m values first decision-is place-is set-is = record {
-    first = subst (First-match (m .rules) values) (sym place-is) first;
-    matching = subst (Matching (m .rules) values) (sym set-is) (set-found (m .rules) values);
-    decision-is = decision-is;
-    place-is = place-is;
-    set-is = set-is;
-  }
+  first = subst (First-match (m .rules) values) (sym place-is) first;
+  matching = subst (Matching (m .rules) values) (sym set-is) (set-found (m .rules) values);
+  decision-is = decision-is;
+  place-is = place-is;
+  set-is = set-is;
+}

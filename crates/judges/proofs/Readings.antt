@@ -36,9 +36,9 @@ module _ (ranges : List Interval) (count : ℕ) (rules : List Rule) (edit : Opti
 
   pub viewable : Viewable rules edit limits
   viewable = record {
-      few = let long = length-cut ranges count rules in let few = read .lawful .few in omega arith;
-      taken = subst (Taken edit) (sym own) (read .taken);
-    }
+    few = let long = length-cut ranges count rules in let few = read .lawful .few in omega arith;
+    taken = subst (Taken edit) (sym own) (read .taken);
+  }
 
   pub seen-own : seen rules edit limits ≡ under edit (cut ranges count rules)
   seen-own = ap (under edit) own

@@ -47,12 +47,12 @@ changed : (rules : List Rule) (i d p : ℕ) → (1 ≤ i) × (i ≤ length rules
 changed rules i d p asks low =
     ⊎-elim
     (λ e. let at : p - 1 ≡ i - 1 = omega arith in
-        ap (λ k. getD (set rules (i - 1) (with-decision (rule-at rules i) d)) k blank) at
-        ∙ getD-set-same rules (i - 1) (with-decision (rule-at rules i) d) blank (omega arith)
-        ∙ ap (λ k. with-decision (rule-at rules k) d) (sym e)
-        ∙ ap (λ b. with-decision (rule-at rules p) (cond b d (rule-at rules p .decision))) (sym (eq-eqb p i e)))
+    ap (λ k. getD (set rules (i - 1) (with-decision (rule-at rules i) d)) k blank) at
+    ∙ getD-set-same rules (i - 1) (with-decision (rule-at rules i) d) blank (omega arith)
+    ∙ ap (λ k. with-decision (rule-at rules k) d) (sym e)
+    ∙ ap (λ b. with-decision (rule-at rules p) (cond b d (rule-at rules p .decision))) (sym (eq-eqb p i e)))
     (λ ne. getD-set-other rules (i - 1) (p - 1) (with-decision (rule-at rules i) d) blank (λ e. ne (omega arith))
-        ∙ ap (λ b. with-decision (rule-at rules p) (cond b d (rule-at rules p .decision))) (sym (ne-eqb p i ne)))
+    ∙ ap (λ b. with-decision (rule-at rules p) (cond b d (rule-at rules p .decision))) (sym (ne-eqb p i ne)))
     (cases-eq p i)
 
 swapped-source : (rules : List Rule) (i j p s : ℕ) → source-of (Some (Swap i j)) p ≡ s → rule-at (exchanged rules (i - 1) (j - 1)) p ≡ rule-at rules s → Stands (Some (Swap i j)) rules p
@@ -65,15 +65,15 @@ swapped rules i j p asks low high =
     let at = swapped-from-exchanged rules ys (i - 1) (j - 1) blank (omega arith) (omega arith) refl in
     ⊎-elim
     (λ e. let k : p - 1 ≡ i - 1 = omega arith in
-        let is : source-of (Some (Swap i j)) p ≡ j = ap (λ b. cond b j (cond (eqb p j) i p)) (eq-eqb p i e) in
-        (swapped-source rules i j p j is (ap (λ m. getD ys m blank) k ∙ at .0), (omega arith, omega arith)))
+    let is : source-of (Some (Swap i j)) p ≡ j = ap (λ b. cond b j (cond (eqb p j) i p)) (eq-eqb p i e) in
+    (swapped-source rules i j p j is (ap (λ m. getD ys m blank) k ∙ at .0), (omega arith, omega arith)))
     (λ ne. ⊎-elim
-        (λ e. let k : p - 1 ≡ j - 1 = omega arith in
-            let is : source-of (Some (Swap i j)) p ≡ i = ap (λ b. cond b j (cond (eqb p j) i p)) (ne-eqb p i ne) ∙ ap (λ b. cond b i p) (eq-eqb p j e) in
-            (swapped-source rules i j p i is (ap (λ m. getD ys m blank) k ∙ at .1), (omega arith, omega arith)))
-        (λ nf. let is : source-of (Some (Swap i j)) p ≡ p = ap (λ b. cond b j (cond (eqb p j) i p)) (ne-eqb p i ne) ∙ ap (λ b. cond b i p) (ne-eqb p j nf) in
-            (swapped-source rules i j p p is (at .2 (p - 1) (λ e. ne (omega arith)) (λ e. nf (omega arith))), (omega arith, omega arith)))
-        (cases-eq p j))
+    (λ e. let k : p - 1 ≡ j - 1 = omega arith in
+    let is : source-of (Some (Swap i j)) p ≡ i = ap (λ b. cond b j (cond (eqb p j) i p)) (ne-eqb p i ne) ∙ ap (λ b. cond b i p) (eq-eqb p j e) in
+    (swapped-source rules i j p i is (ap (λ m. getD ys m blank) k ∙ at .1), (omega arith, omega arith)))
+    (λ nf. let is : source-of (Some (Swap i j)) p ≡ p = ap (λ b. cond b j (cond (eqb p j) i p)) (ne-eqb p i ne) ∙ ap (λ b. cond b i p) (ne-eqb p j nf) in
+    (swapped-source rules i j p p is (at .2 (p - 1) (λ e. ne (omega arith)) (λ e. nf (omega arith))), (omega arith, omega arith)))
+    (cases-eq p j))
     (cases-eq p i)
 
 deleted : (rules : List Rule) (i p : ℕ) → (1 ≤ i) × (i < length rules) → 1 ≤ p → p + 1 ≤ length rules → Stands (Some (Delete i)) rules p × In (Some (Delete i)) rules p
@@ -81,10 +81,10 @@ deleted rules i p asks low high =
     let within : i - 1 < length rules = omega arith in
     ⊎-elim
     (λ lt. let is : source-of (Some (Delete i)) p ≡ p = ap (λ b. cond b p (p + 1)) (lt-ltb p i lt) in
-        (getD-removed-below rules (i - 1) blank (p - 1) (omega arith) within ∙ ap (rule-at rules) (sym is), (omega arith, omega arith)))
+    (getD-removed-below rules (i - 1) blank (p - 1) (omega arith) within ∙ ap (rule-at rules) (sym is), (omega arith, omega arith)))
     (λ ge. let is : source-of (Some (Delete i)) p ≡ p + 1 = ap (λ b. cond b p (p + 1)) (le-ltb p i ge) in
-        let k : (p - 1) + 1 ≡ (p + 1) - 1 = omega arith in
-        (getD-removed-above rules (i - 1) blank (p - 1) (omega arith) within ∙ ap (λ m. getD rules m blank) k ∙ ap (rule-at rules) (sym is), (omega arith, omega arith)))
+    let k : (p - 1) + 1 ≡ (p + 1) - 1 = omega arith in
+    (getD-removed-above rules (i - 1) blank (p - 1) (omega arith) within ∙ ap (λ m. getD rules m blank) k ∙ ap (rule-at rules) (sym is), (omega arith, omega arith)))
     (cases-lt p i)
 
 pub stands : (edit : Option (Edit ℕ)) (rules : List Rule) (p : ℕ) → Taken edit rules → 1 ≤ p → p ≤ length (under edit rules) → Stands edit rules p × In edit rules p

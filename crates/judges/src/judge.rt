@@ -14,6 +14,7 @@ use rules::kind::RequestKind;
 
 pub trait Judge: Drop + Sized {
     type Request: RequestKind;
+
     type Decision: DecisionKind;
 
     ghost meaning: { Self → Meaning };
@@ -26,7 +27,11 @@ pub trait Judge: Drop + Sized {
         ensures { λ r. ⌜ Verdict-on (meaning (now (self .entry))) (Request·RequestKind .values (now (request .entry))) (Decision·DecisionKind .number) r ⌝ };
 
     // What judge would answer if the edit had been accepted; declined as the edit would be.
-    fn judge_under(&self, request: &Self::Request, edit: &Edit<Self::Decision>) -> Result<Verdict<Self::Decision>, Decline>
+    fn judge_under(
+        &self,
+        request: &Self::Request,
+        edit: &Edit<Self::Decision>,
+    ) -> Result<Verdict<Self::Decision>, Decline>
         ensures { λ r. ⌜ Judged-under (meaning (now (self .entry))) (Request·RequestKind .values (now (request .entry))) (plain-edit (Decision·DecisionKind .number) (now (edit .entry))) (Decision·DecisionKind .number) r ⌝ };
 
     // Makes the edit; declined 10, 12, 11 or 13.

@@ -1,7 +1,7 @@
 // Judges: the interface that every judge and layer keeps, and the scan, which reads a table from the top.
 pub mod judge;
-pub mod scan;
 mod reading;
-mod view;
+pub mod scan;
 pub mod verdict;
+mod view;
 pub mod window;

@@ -2,8 +2,9 @@
 ghost use mathlib.Core.Path.{_≡_};
 ghost use mathlib.Core.List.{[]};
 ghost use Rattle.judges.specs.Meanings.{Verdict-on};
-ghost use Rattle.judges.specs.Notes.{value-decline};
+ghost use Rattle.judges.specs.Notes.{value-decline, withdraw-decline};
 ghost use Rattle.judges.specs.Views.{Readable, under};
+ghost use Rattle.std.specs.declared.option.Option.the-variants.{Some};
 ghost use Rattle.rules.specs.Kinds.{of-field};
 ghost use Rattle.rules.specs.Rules.{cut};
 use crate::verdict::Verdict;
@@ -17,7 +18,11 @@ use rules::rule::Rule;
 use rules::values::Values;
 
 // The verdict on a request by the rules as kept, under an edit if there is one.
-pub(crate) fn verdict<Q: RequestKind, D: DecisionKind>(rules: &[Rule], edit: &Option<Edit<u8>>, request: &Q) -> Verdict<D>
+pub(crate) fn verdict<Q: RequestKind, D: DecisionKind>(
+    rules: &[Rule],
+    edit: &Option<Edit<u8>>,
+    request: &Q,
+) -> Verdict<D>
     requires { ⌜ Readable (Q·RequestKind .ranges) (D·DecisionKind .count) (now rules) (now edit) ⌝ }
     ensures { λ r. ⌜ Verdict-on (record { rules = under (now (edit .entry)) (cut (Q·RequestKind .ranges) (D·DecisionKind .count) (now (rules .entry))); notes = [] }) (Q·RequestKind .values (now (request .entry))) (D·DecisionKind .number) r ⌝ }
 {
@@ -28,7 +33,11 @@ pub(crate) fn verdict<Q: RequestKind, D: DecisionKind>(rules: &[Rule], edit: &Op
     let matching = view::matching_set(rules, edit, &limits, values);
     let number = view::decision_at(rules, edit, &limits, place);
     match D::make(u32::from(number)) {
-        Ok(decision) => Verdict { decision, place, matching },
+        Ok(decision) => Verdict {
+            decision,
+            place,
+            matching,
+        },
         Err(_) => unreachable(),
     }
 }
@@ -46,5 +55,15 @@ pub(crate) fn value_decline<Q: RequestKind>(field: usize, value: u32) -> Option<
                 Some(Decline::OutsideRange)
             }
         }
+    }
+}
+
+// How a bare judge declines a call that a withdrawal layer would take: 14, 5, then 15.
+pub(crate) fn no_layer<Q: RequestKind>(field: usize, value: u32) -> Decline
+    ensures { λ r. ⌜ Some r ≡ withdraw-decline (Q·RequestKind .ranges) [] field value ⌝ }
+{
+    match value_decline::<Q>(field, value) {
+        Some(decline) => decline,
+        None => Decline::NoWithdrawalLayer,
     }
 }

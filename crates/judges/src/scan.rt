@@ -4,7 +4,7 @@ ghost use mathlib.Core.List.{[]};
 ghost use Rattle.rules.specs.Tables.{table-rules};
 ghost use Rattle.judges.specs.Scans.{scan-meaning};
 use crate::judge::Judge;
-use crate::reading::value_decline;
+use crate::reading::no_layer;
 use crate::reading::verdict;
 use crate::verdict::Verdict;
 use rules::decline::Decline;
@@ -29,6 +29,7 @@ impl<Q: RequestKind, D: DecisionKind> Scan<Q, D> {
 
 pub impl<Q: RequestKind, D: DecisionKind> Judge for Scan<Q, D> as ScanJudge {
     type Request = Q;
+
     type Decision = D;
 
     ghost meaning = { λ s. scan-meaning (Q·RequestKind .ranges) (D·DecisionKind .count) s };
@@ -57,16 +58,11 @@ pub impl<Q: RequestKind, D: DecisionKind> Judge for Scan<Q, D> as ScanJudge {
     }
 
     fn withdraw(&mut self, field: usize, value: u32) -> Result<(), Decline> {
-        match value_decline::<Q>(field, value) {
-            Some(decline) => Err(decline),
-            None => Err(Decline::NoWithdrawalLayer),
-        }
+        Err(no_layer::<Q>(field, value))
     }
 
     fn give_back(&mut self, field: usize, value: u32) -> Result<(), Decline> {
-        match value_decline::<Q>(field, value) {
-            Some(decline) => Err(decline),
-            None => Err(Decline::NoWithdrawalLayer),
-        }
+        let declined = no_layer::<Q>(field, value);
+        Err(declined)
     }
 }

@@ -35,13 +35,7 @@ fn source(edit: &Option<Edit<u8>>, place: usize) -> usize
                 place
             }
         }
-        Some(Edit::Delete { place: gone }) => {
-            if place < *gone {
-                place
-            } else {
-                place + 1
-            }
-        }
+        Some(Edit::Delete { place: gone }) => { if place < *gone { place } else { place + 1 } }
         _ => place,
     }
 }
@@ -51,19 +45,23 @@ fn decision_after(edit: &Option<Edit<u8>>, place: usize, own: u8) -> u8
     ensures { λ r. ⌜ r ≡ decision-under (now (edit .entry)) place own ⌝ }
 {
     match edit {
-        Some(Edit::Change { place: changed, decision }) => {
-            if place == *changed {
-                *decision
-            } else {
-                own
-            }
-        }
+        Some(
+            Edit::Change {
+                place: changed,
+                decision,
+            },
+        ) => { if place == *changed { *decision } else { own } }
         _ => own,
     }
 }
 
 // The rule, as kept, that stands at a place.
-fn kept_rule<'a>(rules: &'a [Rule], edit: &Option<Edit<u8>>, limits: &Limits, place: usize) -> &'a Rule
+fn kept_rule<'a>(
+    rules: &'a [Rule],
+    edit: &Option<Edit<u8>>,
+    limits: &Limits,
+    place: usize,
+) -> &'a Rule
     requires view { ⌜ Viewable (now rules) (now edit) (now limits) ⌝ }
     requires placed { ⌜ (1 ≤ place) × (place ≤ length (seen (now rules) (now edit) (now limits))) ⌝ }
     ensures { λ r. ⌜ now r ≡ rule-at (now (rules .entry)) (source-of (now (edit .entry)) place) ⌝ }
@@ -72,7 +70,13 @@ fn kept_rule<'a>(rules: &'a [Rule], edit: &Option<Edit<u8>>, limits: &Limits, pl
 }
 
 // Whether the rule at a place matches.
-fn matches_at(rules: &[Rule], edit: &Option<Edit<u8>>, limits: &Limits, values: &[u32], place: usize) -> bool
+fn matches_at(
+    rules: &[Rule],
+    edit: &Option<Edit<u8>>,
+    limits: &Limits,
+    values: &[u32],
+    place: usize,
+) -> bool
     requires view { ⌜ Viewable (now rules) (now edit) (now limits) ⌝ }
     requires placed { ⌜ (1 ≤ place) × (place ≤ length (seen (now rules) (now edit) (now limits))) ⌝ }
     ensures { λ r. ⌜ r ≡ matches (rule-at (seen (now (rules .entry)) (now (edit .entry)) (now (limits .entry))) place) (now (values .entry)) ⌝ }
@@ -81,21 +85,32 @@ fn matches_at(rules: &[Rule], edit: &Option<Edit<u8>>, limits: &Limits, values: 
 }
 
 // The place of the first rule that matches, from the top.
-pub(crate) fn first_match(rules: &[Rule], edit: &Option<Edit<u8>>, limits: &Limits, values: &[u32]) -> usize
+pub(crate) fn first_match(
+    rules: &[Rule],
+    edit: &Option<Edit<u8>>,
+    limits: &Limits,
+    values: &[u32],
+) -> usize
     requires { ⌜ Viewable (now rules) (now edit) (now limits) ⌝ }
     ensures { λ r. ⌜ r ≡ first-match (seen (now (rules .entry)) (now (edit .entry)) (now (limits .entry))) (now (values .entry)) ⌝ }
 {
     let count = count_after(edit, rules.len());
     for k in 0..count {
-        if matches_at(rules, edit, limits, values, k + 1) {
-            return k + 1;
+        let place = k + 1;
+        if matches_at(rules, edit, limits, values, place) {
+            return place;
         }
     }
     count + 1
 }
 
 // The matching set: bit k for the rule at place k + 1.
-pub(crate) fn matching_set(rules: &[Rule], edit: &Option<Edit<u8>>, limits: &Limits, values: &[u32]) -> u64
+pub(crate) fn matching_set(
+    rules: &[Rule],
+    edit: &Option<Edit<u8>>,
+    limits: &Limits,
+    values: &[u32],
+) -> u64
     requires { ⌜ Viewable (now rules) (now edit) (now limits) ⌝ }
     ensures { λ r. ⌜ r ≡ matching-set (seen (now (rules .entry)) (now (edit .entry)) (now (limits .entry))) (now (values .entry)) ⌝ }
 {
@@ -109,7 +124,12 @@ pub(crate) fn matching_set(rules: &[Rule], edit: &Option<Edit<u8>>, limits: &Lim
 }
 
 // The number of the decision at a place.
-pub(crate) fn decision_at(rules: &[Rule], edit: &Option<Edit<u8>>, limits: &Limits, place: usize) -> u8
+pub(crate) fn decision_at(
+    rules: &[Rule],
+    edit: &Option<Edit<u8>>,
+    limits: &Limits,
+    place: usize,
+) -> u8
     requires view { ⌜ Viewable (now rules) (now edit) (now limits) ⌝ }
     requires placed { ⌜ (1 ≤ place) × (place ≤ length (seen (now rules) (now edit) (now limits))) ⌝ }
     ensures { λ r. ⌜ r ≡ rule-at (seen (now (rules .entry)) (now (edit .entry)) (now (limits .entry))) place .decision ⌝ }

@@ -24,10 +24,22 @@ pub struct Command {
 
 impl Command {
     // Declined 9 where a value lies outside its field's range.
-    pub fn new(code: u32, level: u32, command: u32, loop_number: u32, minute: u32) -> Result<Command, Decline>
+    pub fn new(
+        code: u32,
+        level: u32,
+        command: u32,
+        loop_number: u32,
+        minute: u32,
+    ) -> Result<Command, Decline>
         ensures { λ r. ⌜ Made-from command-ranges (λ q. q .code ∷ q .level ∷ q .command ∷ q .«loop_number» ∷ q .minute ∷ []) (code ∷ level ∷ command ∷ «loop_number» ∷ minute ∷ []) r ⌝ }
     {
-        if code > 9999 || level < 1 || level > 4 || command > 63 || loop_number > 16 || minute > 10079 {
+        if code > 9999
+            || level < 1
+            || level > 4
+            || command > 63
+            || loop_number > 16
+            || minute > 10079
+        {
             return Err(Decline::NotOfKind);
         }
         Ok(Command {
@@ -72,6 +84,7 @@ impl Command {
 
 pub impl RequestKind for Command as CommandKind {
     ghost ranges = { command-ranges };
+
     ghost values = { λ q. q .code ∷ q .level ∷ q .command ∷ q .«loop_number» ∷ q .minute ∷ [] };
 
     const FIELDS: usize = 5;
@@ -82,11 +95,11 @@ pub impl RequestKind for Command as CommandKind {
 
     fn range(field: usize) -> Option<Interval> {
         match field {
-            1 => Some(Interval { lower: 0, upper: 9999 }),
-            2 => Some(Interval { lower: 1, upper: 4 }),
-            3 => Some(Interval { lower: 0, upper: 63 }),
-            4 => Some(Interval { lower: 0, upper: 16 }),
-            5 => Some(Interval { lower: 0, upper: 10079 }),
+            1 => Some(Interval::new(0, 9999)),
+            2 => Some(Interval::new(1, 4)),
+            3 => Some(Interval::new(0, 63)),
+            4 => Some(Interval::new(0, 16)),
+            5 => Some(Interval::new(0, 10079)),
             _ => None,
         }
     }
@@ -118,6 +131,9 @@ pub impl fmt::Display for Command as CommandDisplay {
         let command = self.command;
         let on = self.loop_number;
         let minute = self.minute;
-        write!(f, "code {code}, level {level}, command {command}, loop {on}, minute {minute}")
+        write!(
+            f,
+            "code {code}, level {level}, command {command}, loop {on}, minute {minute}"
+        )
     }
 }

@@ -1,8 +1,8 @@
 // The decisions on commands, from the strictest: refuse 0, hold 1 (a second key is awaited), permit M minutes 1 + M.
 ghost use Rattle.kinds.specs.Commands.{command-number};
+use crate::minutes::Minutes;
 use rules::decline::Decline;
 use rules::kind::DecisionKind;
-use crate::minutes::Minutes;
 use std::fmt;
 
 #[derive(Clone, Copy)]
@@ -14,6 +14,7 @@ pub enum CommandDecision {
 
 pub impl DecisionKind for CommandDecision as CommandDecisionKind {
     ghost count = { 242 };
+
     ghost number = { command-number };
 
     const COUNT: usize = 242;

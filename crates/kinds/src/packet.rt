@@ -22,7 +22,13 @@ pub struct Packet {
 
 impl Packet {
     // Declined 9 where a value lies outside its field's range.
-    pub fn new(source: u32, destination: u32, sport: u32, dport: u32, protocol: u32) -> Result<Packet, Decline>
+    pub fn new(
+        source: u32,
+        destination: u32,
+        sport: u32,
+        dport: u32,
+        protocol: u32,
+    ) -> Result<Packet, Decline>
         ensures { λ r. ⌜ Made-from packet-ranges (λ q. q .source ∷ q .destination ∷ q .sport ∷ q .dport ∷ q .protocol ∷ []) (source ∷ destination ∷ sport ∷ dport ∷ protocol ∷ []) r ⌝ }
     {
         if sport > 65535 || dport > 65535 || protocol > 255 {
@@ -70,6 +76,7 @@ impl Packet {
 
 pub impl RequestKind for Packet as PacketKind {
     ghost ranges = { packet-ranges };
+
     ghost values = { λ q. q .source ∷ q .destination ∷ q .sport ∷ q .dport ∷ q .protocol ∷ [] };
 
     const FIELDS: usize = 5;
@@ -80,11 +87,11 @@ pub impl RequestKind for Packet as PacketKind {
 
     fn range(field: usize) -> Option<Interval> {
         match field {
-            1 => Some(Interval { lower: 0, upper: 4294967295 }),
-            2 => Some(Interval { lower: 0, upper: 4294967295 }),
-            3 => Some(Interval { lower: 0, upper: 65535 }),
-            4 => Some(Interval { lower: 0, upper: 65535 }),
-            5 => Some(Interval { lower: 0, upper: 255 }),
+            1 => Some(Interval::new(0, 4294967295)),
+            2 => Some(Interval::new(0, 4294967295)),
+            3 => Some(Interval::new(0, 65535)),
+            4 => Some(Interval::new(0, 65535)),
+            5 => Some(Interval::new(0, 255)),
             _ => None,
         }
     }

@@ -12,6 +12,7 @@ pub enum PacketDecision {
 
 pub impl DecisionKind for PacketDecision as PacketDecisionKind {
     ghost count = { 2 };
+
     ghost number = { packet-number };
 
     const COUNT: usize = 2;

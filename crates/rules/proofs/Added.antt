@@ -35,10 +35,10 @@ module _ (ranges : List Interval) (count : ℕ) (rules : List Rule) (clauses : L
 
   pub added-full : 64 ≤ n → Added ranges (cut ranges count rules) clauses decision (Some Full) (cut ranges count rules)
   added-full full = record {
-      declines = sym (ap (λ m. add-decline ranges m clauses) same-length ∙ ap (λ b. unless b Full (clauses-decline ranges clauses)) (le-leb 64 n full));
-      leaves = refl;
-      in-order = λ accepted default is. refl;
-    }
+    declines = sym (ap (λ m. add-decline ranges m clauses) same-length ∙ ap (λ b. unless b Full (clauses-decline ranges clauses)) (le-leb 64 n full));
+    leaves = refl;
+    in-order = λ accepted default is. refl;
+  }
 
   room : n < 64 → add-decline ranges (length (cut ranges count rules)) clauses ≡ clauses-decline ranges clauses
   room free = ap (λ m. add-decline ranges m clauses) same-length ∙ ap (λ b. unless b Full (clauses-decline ranges clauses)) (lt-leb 64 n free)
@@ -53,7 +53,7 @@ module _ (ranges : List Interval) (count : ℕ) (rules : List Rule) (clauses : L
       let clauses-are = taken-cut ranges clauses kept six (sym is) same in
       let least : min decision (count - 1) ≡ decision = omega arith in
       let leaves = ap (cut ranges count) done ∙ cut-add ranges count rules (record { clauses = kept; decision = decision })
-        ∙ (λ k. above-default (cut ranges count rules) (record { clauses = clauses-are k; decision = least k })) in
+      ∙ (λ k. above-default (cut ranges count rules) (record { clauses = clauses-are k; decision = least k })) in
       record {
         declines = is ∙ sym (room free);
         leaves = leaves;

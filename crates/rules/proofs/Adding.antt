@@ -87,7 +87,8 @@ fronted-more clauses front fields k here few long run so-far =
     let in-clauses : k < length clauses = omega arith in
     let in-taken : k < length (take fields clauses) = simp length-take (omega arith) in
     let all = every-all forward (take fields clauses) run in
-    let this : forward i ≡ true = ap forward (sym (getD-take fields clauses k (from-to 0 0) here)) ∙ all-getD (λ c. forward c ≡ true) (take fields clauses) k (from-to 0 0) in-taken all in
-    (length-set front k i ∙ six,
-    take-more-set front k i in-front ∙ ap (λ l. l ++ (i ∷ [])) (so-far .1) ∙ sym (take-more clauses k (from-to 0 0) in-clauses),
-    all-every forward (set front k i) (all-set (λ c. forward c ≡ true) front k i this (every-all forward front (so-far .2))))
+    let this : forward i ≡ true = ap forward (sym (getD-take fields clauses k (from-to 0 0) here)) ∙ all-getD (λ c. forward c ≡ true) (take fields clauses) k (from-to 0 0) in-taken all in (
+      length-set front k i ∙ six,
+      take-more-set front k i in-front ∙ ap (λ l. l ++ (i ∷ [])) (so-far .1) ∙ sym (take-more clauses k (from-to 0 0) in-clauses),
+      all-every forward (set front k i) (all-set (λ c. forward c ≡ true) front k i this (every-all forward front (so-far .2))),
+    )

@@ -2,6 +2,7 @@
 use mathlib.Core.Path.{_≡_, refl, sym, ap, _∙_}
 use mathlib.Core.Bool.{Bool, true, false, not, _&&_, _||_}
 use mathlib.Core.List.{List, [], _∷_, _++_, map}
+use mathlib.Core.Logic.{⊎-elim}
 use Prim.Native.Nat.{ℕ, zero, suc, _+_, _-_, _<_, _≤_, min, max, _^_}
 use native.Mathlib.Omega.{arith}
 use lib.Dec.{eqb}
@@ -9,8 +10,8 @@ use lib.ListN.{length, getD, set, take, drop}
 use Rattle.std.specs.Of.Vec.{vec-items}
 use Rattle.std.specs.shelf.Lists.{All, inserted, removed, exchanged}
 use Rattle.std.proofs.shelf.Elements.{all-map, all-weaker}
-use Rattle.std.proofs.shelf.Lists.{map-set, map-append, take-map, drop-map, getD-map, length-map}
-use Rattle.std.proofs.shelf.Tests.{and-parts, leb-true, eqb-true}
+use Rattle.std.proofs.shelf.Lists.{map-set, map-append, take-map, drop-map, getD-map, length-map, getD-past}
+use Rattle.std.proofs.shelf.Tests.{and-parts, leb-true, eqb-true, cases-lt}
 use Rattle.rules.specs.declared.edit.Edit.the-variants.{Change, Swap, Delete}
 use Rattle.rules.specs.declared.interval.Interval.{Interval}
 use Rattle.rules.specs.declared.rule.Rule.{Rule}
@@ -30,6 +31,17 @@ module _ (ranges : List Interval) (count : ℕ) where
 
   pub rule-at-cut : (rules : List Rule) (place : ℕ) → 1 ≤ place → place ≤ length rules → rule-at (cut ranges count rules) place ≡ cut-rule ranges count (rule-at rules place)
   rule-at-cut rules place low high = getD-map (cut-rule ranges count) rules (place - 1) blank blank (omega arith)
+
+  -- the decision at any place, also where there is no rule
+  pub decision-at-cut : (rules : List Rule) (place : ℕ) → rule-at (cut ranges count rules) place .decision ≡ min (rule-at rules place .decision) (count - 1)
+  decision-at-cut rules place =
+      ⊎-elim
+      (λ lt. ap (λ r. r .decision) (getD-map (cut-rule ranges count) rules (place - 1) blank blank lt))
+      (λ ge. let long = length-cut rules in
+      ap (λ r. r .decision) (getD-past (cut ranges count rules) (place - 1) blank (omega arith))
+      ∙ omega arith
+      ∙ ap (λ r. min (r .decision) (count - 1)) (sym (getD-past rules (place - 1) blank ge)))
+      (cases-lt (place - 1) (length rules))
 
   pub cut-change : (rules : List Rule) (place decision : ℕ) → 1 ≤ place → place ≤ length rules → decision < count
       → cut ranges count (edited rules (Change place decision)) ≡ edited (cut ranges count rules) (Change place decision)
@@ -108,8 +120,8 @@ lawful-cut ranges count rules lawful counted some few sound =
       some = omega arith;
       few = omega arith;
       each = all-map (Lawful-rule ranges count) (cut-rule ranges count) rules
-        (all-weaker (λ r. forward-rule r ≡ true) (λ r. Lawful-rule ranges count (cut-rule ranges count r))
-        (λ r run. (lawful-cut-clauses ranges (r .clauses) (lawful .2) run, omega arith)) rules (every-all forward-rule rules (sound .forward)));
+          (all-weaker (λ r. forward-rule r ≡ true) (λ r. Lawful-rule ranges count (cut-rule ranges count r))
+          (λ r run. (lawful-cut-clauses ranges (r .clauses) (lawful .2) run, omega arith)) rules (every-all forward-rule rules (sound .forward)));
       default = ap (λ n. rule-at (cut ranges count rules) n .clauses) long ∙ ap (λ r. r .clauses) last ∙ whole;
     }
 

@@ -1,44 +1,19 @@
--- The checks of an edit on rules that are cut, from the checks on the rules as kept. Assumes nothing.
-use mathlib.Core.Path.{_≡_, refl, sym, ap, _∙_}
-use mathlib.Core.Bool.{Bool, true, false, not, cond, _&&_}
-use mathlib.Core.List.{List}
-use Prim.Native.Nat.{ℕ, _-_, _≤_, _<_, min}
+-- What the checks of an edit tell. Assumes nothing.
+use mathlib.Core.Path.{_≡_, refl}
+use mathlib.Core.Bool.{Bool, true, false, not, _&&_}
+use Prim.Native.Nat.{ℕ, _≤_, _<_}
 use native.Mathlib.Omega.{arith}
 use lib.Dec.{eqb, leb, ltb}
-use lib.ListN.{length}
 use Rattle.std.specs.declared.option.Option.{Option}
-use Rattle.std.specs.declared.option.Option.the-variants.{Some, None}
+use Rattle.std.specs.declared.option.Option.the-variants.{None}
 use Rattle.std.proofs.shelf.Tests.{and-parts, leb-true, ltb-true, eqb-false, not-false}
 use Rattle.rules.specs.declared.decline.Decline.{Decline}
-use Rattle.rules.specs.declared.decline.Decline.the-variants.{NoSuchPlace, SameDecision, OutOfOrder, DefaultStays}
-use Rattle.rules.specs.declared.edit.Edit.the-variants.{Change}
-use Rattle.rules.specs.declared.interval.Interval.{Interval}
-use Rattle.rules.specs.declared.rule.Rule.{Rule}
+use Rattle.rules.specs.declared.decline.Decline.the-variants.{NoSuchPlace, OutOfOrder, DefaultStays}
 use Rattle.rules.specs.Declines.{unless}
-use Rattle.rules.specs.Edits.{placed, edit-decline, change-decline, swap-decline, delete-decline}
-use Rattle.rules.specs.Rules.{rule-at, cut}
-use Rattle.rules.proofs.Cuts.{length-cut, rule-at-cut}
+use Rattle.rules.specs.Edits.{placed, change-decline, swap-decline, delete-decline}
 
 pub placed-parts : (n place : ℕ) → placed n place ≡ true → (1 ≤ place) × (place ≤ n)
 placed-parts n place h = let both = and-parts (leb 1 place) (leb place n) h in (leb-true 1 place (both .0), leb-true place n (both .1))
-
-module _ (ranges : List Interval) (count : ℕ) (rules : List Rule) (n place decision : ℕ) (long : n ≡ length rules) where
-  same-length : length (cut ranges count rules) ≡ n
-  same-length = length-cut ranges count rules ∙ sym long
-
-  pub unplaced : placed n place ≡ false → Some NoSuchPlace ≡ edit-decline (cut ranges count rules) (Change place decision)
-  unplaced h = sym (ap (λ m. change-decline m place (rule-at (cut ranges count rules) place .decision) decision) same-length
-      ∙ ap (λ b. unless (not b) NoSuchPlace (unless (eqb (rule-at (cut ranges count rules) place .decision) decision) SameDecision None)) h)
-
-  pub placed-change : (number : ℕ) (same : Bool) → placed n place ≡ true → number ≡ min (rule-at rules place .decision) (count - 1) → eqb number decision ≡ same
-      → edit-decline (cut ranges count rules) (Change place decision) ≡ cond same (Some SameDecision) None
-  placed-change number same h is told =
-      let both = placed-parts n place h in
-      let here = ap (λ r. r .decision) (rule-at-cut ranges count rules place (both .0) (omega arith)) ∙ sym is in
-      ap (λ m. change-decline m place (rule-at (cut ranges count rules) place .decision) decision) same-length
-      ∙ ap (λ b. unless (not b) NoSuchPlace (unless (eqb (rule-at (cut ranges count rules) place .decision) decision) SameDecision None)) h
-      ∙ ap (λ d. unless (eqb d decision) SameDecision None) here
-      ∙ ap (λ b. unless b SameDecision None) told
 
 -- a check that did not decline passed, and so did those after it
 pub unless-none : (b : Bool) (d : Decline) (later : Option Decline) → unless b d later ≡ None → (b ≡ false) × (later ≡ None)

@@ -55,7 +55,7 @@ add-keeps xs y some run sound =
     let long = length-inserted xs i y at in
     let last : length (inserted xs i y) - 1 ≡ i + 1 = omega arith in
     let end : getD (inserted xs i y) (length (inserted xs i y) - 1) blank ≡ getD xs i blank
-        = ap (λ k. getD (inserted xs i y) k blank) last ∙ getD-inserted-above xs i y blank i (omega arith) at in
+    = ap (λ k. getD (inserted xs i y) k blank) last ∙ getD-inserted-above xs i y blank i (omega arith) at in
     record {
       forward = all-every forward-rule (inserted xs i y) (all-append passes (take i xs) (y ∷ drop i xs) (all-take passes i xs all) (run, all-drop passes i xs all));
       wide-end = same-end xs (inserted xs i y) (ap (λ r. r .clauses) end) (sound .wide-end);
@@ -73,9 +73,9 @@ change-end xs place decision low high =
     let last : length (set xs i y) - 1 ≡ n = omega arith in
     ap (λ k. getD (set xs i y) k blank .clauses) last
     ∙ ⊎-elim
-      (λ e. ap (λ k. getD (set xs i y) k blank .clauses) e ∙ ap (λ r. r .clauses) (getD-set-same xs i y blank within) ∙ ap (λ k. getD xs k blank .clauses) (sym e))
-      (λ ne. ap (λ r. r .clauses) (getD-set-other xs i n y blank ne))
-      (cases-eq n i)
+    (λ e. ap (λ k. getD (set xs i y) k blank .clauses) e ∙ ap (λ r. r .clauses) (getD-set-same xs i y blank within) ∙ ap (λ k. getD xs k blank .clauses) (sym e))
+    (λ ne. ap (λ r. r .clauses) (getD-set-other xs i n y blank ne))
+    (cases-eq n i)
 
 pub swap-end : (xs : List Rule) (first second : ℕ) → 1 ≤ first → first < second → second < length xs
     → rule-at (edited xs (Swap first second)) (length (edited xs (Swap first second))) .clauses ≡ rule-at xs (length xs) .clauses

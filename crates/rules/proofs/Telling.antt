@@ -28,9 +28,9 @@ module _ {D : Type 0} (ranges : List Interval) (count : ℕ) (rules : List Rule)
 
   pub told-nowhere : placed n place ≡ false → Told {D = D} (cut ranges count rules) place number (Err NoSuchPlace)
   told-nowhere h = record {
-      answer = sym (ap (λ m. unless (not (placed m place)) NoSuchPlace None) at-length ∙ ap (λ b. unless (not b) NoSuchPlace None) h);
-      has = tt;
-    }
+    answer = sym (ap (λ m. unless (not (placed m place)) NoSuchPlace None) at-length ∙ ap (λ b. unless (not b) NoSuchPlace None) h);
+    has = tt;
+  }
 
   pub told-there : placed n place ≡ true → 1 ≤ count → (r : Result D Decline) (given : ℕ) → given ≡ min (rule-at rules place .decision) (count - 1)
       → Decision-made count number given r → Told (cut ranges count rules) place number r
@@ -40,6 +40,6 @@ module _ {D : Type 0} (ranges : List Interval) (count : ℕ) (rules : List Rule)
       let below : given < count = omega arith in
       record {
         answer = made .answer ∙ ap (λ b. unless (not b) NotOfKind None) (lt-ltb given count below)
-          ∙ sym (ap (λ m. unless (not (placed m place)) NoSuchPlace None) at-length ∙ ap (λ b. unless (not b) NoSuchPlace None) h);
+            ∙ sym (ap (λ m. unless (not (placed m place)) NoSuchPlace None) at-length ∙ ap (λ b. unless (not b) NoSuchPlace None) h);
         has = made-weaker r (λ d. number d ≡ given) (λ d. number d ≡ rule-at (cut ranges count rules) place .decision) (λ d e. e ∙ is ∙ sym here) (made .has);
       }

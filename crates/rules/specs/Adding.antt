@@ -42,4 +42,4 @@ pub record Added (ranges : List Interval) (before : List Rule) (clauses : List I
   pub leaves : after ≡ left-by answer (above-default before (given-rule ranges clauses decision)) before
   -- a draft is the rules accepted so far, in the order in which they were added, and then its default
   pub in-order : (accepted : List Rule) (default : Rule) → before ≡ accepted ++ (default ∷ [])
-    → after ≡ left-by answer ((accepted ++ (given-rule ranges clauses decision ∷ [])) ++ (default ∷ [])) before
+      → after ≡ left-by answer ((accepted ++ (given-rule ranges clauses decision ∷ [])) ++ (default ∷ [])) before

@@ -3,6 +3,7 @@ ghost use mathlib.Core.Path.{_≡_};
 ghost use mathlib.Core.Bool.{true};
 ghost use mathlib.Core.List.{[], _∷_};
 ghost use Prim.Native.Nat.{_≤_};
+ghost use lib.Dec.{leb};
 ghost use lib.ListN.{length, take};
 ghost use Rattle.std.specs.Vec.{made, refused};
 ghost use Rattle.rules.specs.Adding.{Added, clauses-decline, given-rule};
@@ -25,6 +26,13 @@ use std::marker::PhantomData;
 pub struct Draft<Q, D> {
     list: RuleList,
     kinds: PhantomData<(Q, D)>,
+}
+
+// A draft holds 63 rules besides its default.
+fn is_full(count: usize) -> bool
+    ensures { λ r. ⌜ r ≡ leb 64 count ⌝ }
+{
+    count >= 64
 }
 
 // How a rule's clauses are declined, field by field.
@@ -62,7 +70,10 @@ impl<Q: RequestKind, D: DecisionKind> Draft<Q, D> {
         ensures wants { λ r. ⌜ refused r (λ decline. decline ≡ Decline.NoMemory) ⌝ }
     {
         match RuleList::new(heap, Limits::of::<Q, D>(), default.number()) {
-            Ok(list) => Ok(Draft { list, kinds: PhantomData }),
+            Ok(list) => Ok(Draft {
+                list,
+                kinds: PhantomData,
+            }),
             Err(_) => Err(Decline::NoMemory),
         }
     }
@@ -73,7 +84,7 @@ impl<Q: RequestKind, D: DecisionKind> Draft<Q, D> {
         ensures added { λ r. ⌜ Added (Q·RequestKind .ranges) (draft-rules (Q·RequestKind .ranges) (D·DecisionKind .count) (now (self .entry))) clauses (D·DecisionKind .number decision) (declined r) (draft-rules (Q·RequestKind .ranges) (D·DecisionKind .count) (now (self .exit))) ⌝ }
         ensures same { λ r. ⌜ refused r (λ _. now (self .exit) ≡ now (self .entry)) ⌝ }
     {
-        if self.list.rules.len() >= 64 {
+        if is_full(self.list.rules.len()) {
             return Err(Decline::Full);
         }
         let own = Limits::of::<Q, D>();

@@ -1,7 +1,7 @@
 // An interval of numbers, both ends included: a field's range, or what a rule asks of a field.
 ghost use mathlib.Core.Path.{_≡_};
 ghost use Rattle.rules.specs.Adding.{clause-decline};
-ghost use Rattle.rules.specs.Intervals.{inside, cut-interval};
+ghost use Rattle.rules.specs.Intervals.{inside, cut-interval, from-to};
 use crate::decline::Decline;
 
 #[derive(Clone, Copy, PartialEq, Eq, Debug)]
@@ -11,6 +11,13 @@ pub struct Interval {
 }
 
 impl Interval {
+    // From one value to another, both included. Nothing is asked of the ends: where intervals are taken, they are checked.
+    pub fn new(lower: u32, upper: u32) -> Interval
+        ensures { λ r. ⌜ r ≡ from-to lower upper ⌝ }
+    {
+        Interval { lower, upper }
+    }
+
     // Whether the value lies in the interval, its two ends included.
     pub fn holds(&self, value: u32) -> bool
         ensures { λ r. ⌜ r ≡ inside (now (self .entry)) value ⌝ }
@@ -24,7 +31,7 @@ impl Interval {
     {
         let lower = range.lower.max(range.upper.min(self.lower));
         let upper = range.lower.max(range.upper.min(self.upper));
-        Interval { lower, upper }
+        Interval::new(lower, upper)
     }
 
     // How the interval is declined as a clause or a window on a field of this range:

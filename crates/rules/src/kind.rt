@@ -15,6 +15,7 @@ use crate::interval::Interval;
 pub trait RequestKind: Drop + Sized {
     // The range of each field, in order, and the values that a request bears, in the same order.
     ghost ranges: { List Span };
+
     ghost values: { Self → List ℕ };
 
     // One to six fields, each range running forward and below 2^32.
@@ -49,6 +50,7 @@ pub trait RequestKind: Drop + Sized {
 pub trait DecisionKind: Drop + Sized {
     // How many decisions there are, and the number of each.
     ghost count: { ℕ };
+
     ghost number: { Self → ℕ };
 
     // One to 256 decisions.

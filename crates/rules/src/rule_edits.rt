@@ -1,13 +1,12 @@
 // Whether a list of rules takes a single edit, and the edit itself.
 ghost use mathlib.Core.Path.{_≡_};
-ghost use mathlib.Core.Bool.{true};
 ghost use mathlib.Core.List.{List};
 ghost use Prim.Native.Nat.{_≤_, _-_, min};
 ghost use Rattle.std.specs.Of.Vec.{vec-len, vec-items};
 ghost use Rattle.std.specs.declared.option.Option.the-variants.{None as NoDecline};
 ghost use Rattle.rules.specs.declared.interval.Interval.{Interval};
 ghost use Rattle.rules.specs.Declines.{declined};
-ghost use Rattle.rules.specs.Edits.{edit-decline, swap-decline, delete-decline, edited, placed, Known, Edited};
+ghost use Rattle.rules.specs.Edits.{edit-decline, change-decline, swap-decline, delete-decline, edited, placed, Known, Edited};
 ghost use Rattle.rules.specs.Rules.{rule-at, cut};
 use crate::decline::Decline;
 use crate::edit::Edit;
@@ -17,6 +16,20 @@ pub(crate) fn has_place(count: usize, place: usize) -> bool
     ensures { λ r. ⌜ r ≡ placed count place ⌝ }
 {
     1 <= place && place <= count
+}
+
+// `present` is the number of the decision that the rule at the place has.
+fn change_decline(count: usize, place: usize, present: u8, wanted: u8) -> Option<Decline>
+    ensures { λ r. ⌜ r ≡ change-decline count place present wanted ⌝ }
+{
+    let there = has_place(count, place);
+    if !there {
+        return Some(Decline::NoSuchPlace);
+    }
+    if present == wanted {
+        return Some(Decline::SameDecision);
+    }
+    None
 }
 
 fn swap_decline(count: usize, first: usize, second: usize) -> Option<Decline>
@@ -47,26 +60,16 @@ fn delete_decline(count: usize, place: usize) -> Option<Decline>
 }
 
 impl RuleList {
-    // The number of the decision at a place, cut to the decisions that there are.
+    // The number of the decision at a place, cut to the decisions that there are; of no use where there is no such place.
     pub(crate) fn decision_number(&self, decisions: usize, place: usize) -> u8
-        requires { ⌜ placed (vec-len (now self .rules)) place ≡ true ⌝ }
         ensures { λ r. ⌜ r ≡ min (rule-at (vec-items (now (self .entry) .rules)) place .decision) (decisions - 1) ⌝ }
     {
-        let rule = self.rules[place - 1];
-        let greatest = decisions.saturating_sub(1);
-        (rule.decision as usize).min(greatest) as u8
-    }
-
-    fn change_decline(&self, decisions: usize, place: usize, decision: u8) -> Option<Decline>
-        ensures { λ r. ⌜ ((ranges : List Interval) → r ≡ edit-decline (cut ranges decisions (vec-items (now (self .entry) .rules))) (Edit.Change place decision)) ⌝ }
-    {
-        if !has_place(self.rules.len(), place) {
-            return Some(Decline::NoSuchPlace);
+        let index = place.saturating_sub(1);
+        if index >= self.rules.len() {
+            return 0;
         }
-        if self.decision_number(decisions, place) == decision {
-            return Some(Decline::SameDecision);
-        }
-        None
+        let rule = self.rules[index];
+        (rule.decision as usize).min(decisions.saturating_sub(1)) as u8
     }
 
     // How the edit is declined on the rules cut to any ranges and to these decisions.
@@ -74,7 +77,14 @@ impl RuleList {
         ensures { λ r. ⌜ ((ranges : List Interval) → r ≡ edit-decline (cut ranges decisions (vec-items (now (self .entry) .rules))) edit) ⌝ }
     {
         match edit {
-            Edit::Change { place, decision } => self.change_decline(decisions, place, decision),
+            Edit::Change { place, decision } => {
+                change_decline(
+                    self.rules.len(),
+                    place,
+                    self.decision_number(decisions, place),
+                    decision,
+                )
+            }
             Edit::Swap { first, second } => swap_decline(self.rules.len(), first, second),
             Edit::Delete { place } => delete_decline(self.rules.len(), place),
         }

@@ -33,9 +33,12 @@ impl RuleList {
     pub(crate) fn new(heap: Global, limits: Limits, decision: u8) -> Result<RuleList, AllocError>
         ensures { λ r. ⌜ made r (λ l. (l .limits ≡ limits) × (vec-items (l .rules) ≡ default-rule decision ∷ [])) ⌝ }
     {
-        let widest = Interval { lower: 0, upper: 4294967295 };
+        let widest = Interval::new(0, 4294967295);
         let mut rules = Vec::with_capacity(heap, 64)?;
-        rules.push_reserved(Rule { clauses: [widest; 6], decision });
+        rules.push_reserved(Rule {
+            clauses: [widest; 6],
+            decision,
+        });
         Ok(RuleList { limits, rules })
     }
 

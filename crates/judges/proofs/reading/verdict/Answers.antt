@@ -18,19 +18,19 @@ matching-set-matching-requires g c κs =
 
 pub decision-at-number-requires : need.decision-at-number-requires
 decision-at-number-requires g c κs = record {
-    view = viewable (g .Q·RequestKind .ranges) (g .D·DecisionKind .count) (c .args .rules .now) (c .args .edit .now) (c .of-limits .result) (c .pre) (c .of-limits .ensures .ranges) (c .of-limits .ensures .decisions);
-    placed = place-in (g .Q·RequestKind .ranges) (g .D·DecisionKind .count) (c .args .rules .now) (c .args .edit .now) (c .of-limits .result) (c .pre) (c .of-limits .ensures .ranges) (c .of-limits .ensures .decisions)
+  view = viewable (g .Q·RequestKind .ranges) (g .D·DecisionKind .count) (c .args .rules .now) (c .args .edit .now) (c .of-limits .result) (c .pre) (c .of-limits .ensures .ranges) (c .of-limits .ensures .decisions);
+  placed = place-in (g .Q·RequestKind .ranges) (g .D·DecisionKind .count) (c .args .rules .now) (c .args .edit .now) (c .of-limits .result) (c .pre) (c .of-limits .ensures .ranges) (c .of-limits .ensures .decisions)
       (g .Q·RequestKind .values (c .args .request .now)) (g .Q·RequestKind·met .valued (c .args .request .now)) (c .first-match-place .result)
       (c .first-match-place .ensures ∙ ap (first-match (seen (c .args .rules .now) (c .args .edit .now) (c .of-limits .result))) (c .as-slice-values .ensures ∙ c .of-gathered .ensures));
-  }
+}
 
 pub unreachable-requires : need.unreachable-requires
 unreachable-requires g c κs =
     let rules = seen (c .args .rules .now) (c .args .edit .now) (c .of-limits .result) in
     let same = c .as-slice-values .ensures ∙ c .of-gathered .ensures in
     let can = decision-made (g .Q·RequestKind .ranges) (g .D·DecisionKind .count) (c .args .rules .now) (c .args .edit .now) (c .of-limits .result) (c .pre) (c .of-limits .ensures .ranges) (c .of-limits .ensures .decisions)
-      (g .Q·RequestKind .values (c .args .request .now)) (g .Q·RequestKind·met .valued (c .args .request .now)) (c .first-match-place .result) (c .from .result)
-      (c .first-match-place .ensures ∙ ap (first-match rules) same) (c .from .ensures ∙ c .decision-at-number .ensures) in
+    (g .Q·RequestKind .values (c .args .request .now)) (g .Q·RequestKind·met .valued (c .args .request .now)) (c .first-match-place .result) (c .from .result)
+    (c .first-match-place .ensures ∙ ap (first-match rules) same) (c .from .ensures ∙ c .decision-at-number .ensures) in
     let told = c .in-Err .ensures tt .answer in
     let z : _≡_ {A = ℕ} 0 1 = cc in
     omega arith

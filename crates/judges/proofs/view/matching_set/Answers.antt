@@ -20,8 +20,8 @@ loop-k-again c =
     let few = seen-few (c .args .rules .now) (c .args .edit .now) (c .args .limits .now) (c .pre) in
     let count = c .count-after-k-end .ensures in
     elim (c .if-matches-at .came) [
-      then-matches-at w ↦ simp (w .set-is) (set-take rules (c .args .values .now) (c .loop-k .set) (c .loop-k .k) (omega arith) (omega arith) (sym (c .matches-at .ensures) ∙ w .if-matches-at .taken) (c .loop-k .inv))
-    | else-matches-at w ↦ simp (w .set-is) (set-skip rules (c .args .values .now) (c .loop-k .set) (c .loop-k .k) (omega arith) (sym (c .matches-at .ensures) ∙ w .if-matches-at .left) (c .loop-k .inv))
+      | then-matches-at w ↦ simp (w .set-is) (set-take rules (c .args .values .now) (c .loop-k .set) (c .loop-k .k) (omega arith) (omega arith) (sym (c .matches-at .ensures) ∙ w .if-matches-at .taken) (c .loop-k .inv))
+      | else-matches-at w ↦ simp (w .set-is) (set-skip rules (c .args .values .now) (c .loop-k .set) (c .loop-k .k) (omega arith) (sym (c .matches-at .ensures) ∙ w .if-matches-at .left) (c .loop-k .inv))
     ]
 
 pub returns : need.returns

@@ -10,8 +10,8 @@ loop-k-again g c =
     let own = g .Q·RequestKind .ranges in
     let few = g .Q·RequestKind·met .ranged in
     elim (c .match-range .came) [
-      in-Some w ↦ rw (w .ranges-is) (gathered-more own (c .loop-k .ranges) (c .loop-k .k) (w .in-Some .range) (omega arith) (omega arith) (c .loop-k .inv) (w .in-Some .ensures tt))
-    | in-rest w ↦ gathered-none own (c .loop-k .k) (from-to 0 0) (omega arith) (w .in-rest .ensures tt)
+      | in-Some w ↦ rw (w .ranges-is) (gathered-more own (c .loop-k .ranges) (c .loop-k .k) (w .in-Some .range) (omega arith) (omega arith) (c .loop-k .inv) (w .in-Some .ensures tt))
+      | in-rest w ↦ gathered-none own (c .loop-k .k) (from-to 0 0) (omega arith) (w .in-rest .ensures tt)
     ]
 
 pub returns : need.returns

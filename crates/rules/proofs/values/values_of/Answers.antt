@@ -10,8 +10,8 @@ loop-k-again g c =
     let long = within-length (g .Q·RequestKind .ranges) (g .Q·RequestKind .values (c .args .request .now)) (g .Q·RequestKind·met .valued (c .args .request .now)) in
     let few = g .Q·RequestKind·met .ranged in
     elim (c .match-value .came) [
-      in-Some w ↦ rw (w .values-is) (gathered-more own (c .loop-k .values) (c .loop-k .k) (w .in-Some .value) (omega arith) (omega arith) (c .loop-k .inv) (w .in-Some .ensures tt))
-    | in-rest w ↦ gathered-none own (c .loop-k .k) 0 (omega arith) (w .in-rest .ensures tt)
+      | in-Some w ↦ rw (w .values-is) (gathered-more own (c .loop-k .values) (c .loop-k .k) (w .in-Some .value) (omega arith) (omega arith) (c .loop-k .inv) (w .in-Some .ensures tt))
+      | in-rest w ↦ gathered-none own (c .loop-k .k) 0 (omega arith) (w .in-rest .ensures tt)
     ]
 
 pub returns : need.returns

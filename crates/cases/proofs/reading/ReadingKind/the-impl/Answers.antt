@@ -18,6 +18,11 @@ determined-law p q h =
     let e : p .e ≡ q .e = ap (at 4) h in
     let f : p .f ≡ q .f = ap (at 5) h in
     λ i. record {
-      a = a i; b = b i; c = c i; d = d i; e = e i; f = f i;
+      a = a i;
+      b = b i;
+      c = c i;
+      d = d i;
+      e = e i;
+      f = f i;
       ranged = isProp→PathP (λ j. within reading-ranges (a j ∷ b j ∷ c j ∷ d j ∷ e j ∷ f j ∷ []) ≡ true) (λ j. Bool-set _ _) (p .ranged) (q .ranged) i;
     }

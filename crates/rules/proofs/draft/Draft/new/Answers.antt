@@ -11,6 +11,6 @@ returns-in-Ok g c =
     let known = g .D·DecisionKind·met .numbered (c .args .default) in
     record {
       rules = ap (cut (g .Q·RequestKind .ranges) (g .D·DecisionKind .count)) (told ∙ ap (λ d. default-rule d ∷ []) (c .number .ensures))
-        ∙ default-cut (g .Q·RequestKind .ranges) (g .D·DecisionKind .count) number (g .Q·RequestKind·met .ranged) known;
+          ∙ default-cut (g .Q·RequestKind .ranges) (g .D·DecisionKind .count) number (g .Q·RequestKind·met .ranged) known;
       wants = tt;
     }

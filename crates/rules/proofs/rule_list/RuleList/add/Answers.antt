@@ -20,5 +20,5 @@ ghost-self c =
     let grown : vec-len (c .insert .last .self) ≡ vec-len (old .rules) + 1 = c .insert .ensures .len ∙ ap (λ b. cond b (vec-len (old .rules) + 1) (vec-len (old .rules))) ok in
     let at : c .len-last .result - 1 ≡ length rules - 1 = omega arith in
     let got : vec-items (c .insert .last .self) ≡ above-default rules (c .args .rule)
-        = c .insert .ensures .items ∙ ap (λ b. cond b (inserted rules (c .len-last .result - 1) (c .args .rule)) rules) ok ∙ ap (λ i. inserted rules i (c .args .rule)) at in
+    = c .insert .ensures .items ∙ ap (λ b. cond b (inserted rules (c .len-last .result - 1) (c .args .rule)) rules) ok ∙ ap (λ i. inserted rules i (c .args .rule)) at in
     ghosts (c .insert .last .self) (above-default rules (c .args .rule)) got (omega arith) (omega arith) (omega arith) (add-keeps rules (c .args .rule) (omega arith) (c .pre .run) sound)

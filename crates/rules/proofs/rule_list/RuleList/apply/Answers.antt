@@ -28,18 +28,18 @@ delete-requires c κs =
 
 pub returns-in-Change : need.returns-in-Change
 returns-in-Change c = record {
-    limits = c .change .ensures .limits;
-    rules = λ ranges. change-cut (c .args .decisions) (vec-items (c .args .self .now .rules)) (c .args .edit) (c .pre .taken []) ranges (vec-items (c .change .last .self .rules)) (c .in-Change .place) (c .in-Change .decision) (c .in-Change .is) (c .pre .known) (c .change .ensures .rules);
-  }
+  limits = c .change .ensures .limits;
+  rules = λ ranges. change-cut (c .args .decisions) (vec-items (c .args .self .now .rules)) (c .args .edit) (c .pre .taken []) ranges (vec-items (c .change .last .self .rules)) (c .in-Change .place) (c .in-Change .decision) (c .in-Change .is) (c .pre .known) (c .change .ensures .rules);
+}
 
 pub returns-in-Swap : need.returns-in-Swap
 returns-in-Swap c = record {
-    limits = c .swap .ensures .limits;
-    rules = λ ranges. swap-cut (c .args .decisions) (vec-items (c .args .self .now .rules)) (c .args .edit) (c .pre .taken []) ranges (vec-items (c .swap .last .self .rules)) (c .in-Swap .first) (c .in-Swap .second) (c .in-Swap .is) (c .swap .ensures .rules);
-  }
+  limits = c .swap .ensures .limits;
+  rules = λ ranges. swap-cut (c .args .decisions) (vec-items (c .args .self .now .rules)) (c .args .edit) (c .pre .taken []) ranges (vec-items (c .swap .last .self .rules)) (c .in-Swap .first) (c .in-Swap .second) (c .in-Swap .is) (c .swap .ensures .rules);
+}
 
 pub returns-in-Delete : need.returns-in-Delete
 returns-in-Delete c = record {
-    limits = c .delete .ensures .limits;
-    rules = λ ranges. delete-cut (c .args .decisions) (vec-items (c .args .self .now .rules)) (c .args .edit) (c .pre .taken []) ranges (vec-items (c .delete .last .self .rules)) (c .in-Delete .place) (c .in-Delete .is) (c .delete .ensures .rules);
-  }
+  limits = c .delete .ensures .limits;
+  rules = λ ranges. delete-cut (c .args .decisions) (vec-items (c .args .self .now .rules)) (c .args .edit) (c .pre .taken []) ranges (vec-items (c .delete .last .self .rules)) (c .in-Delete .place) (c .in-Delete .is) (c .delete .ensures .rules);
+}
