@@ -13,6 +13,7 @@ use Rattle.rules.specs.declared.rule.Rule.{Rule}
 use Rattle.rules.specs.Rules.{matches, rule-at}
 use Rattle.judges.specs.Matches.{First-match, first-match, Matching, matching-set, bit}
 use Rattle.judges.specs.Meanings.{Meaning, Judged, decided}
+use Rattle.judges.proofs.Lowering.{lowered-less, lowered-refused}
 
 abbrev blank : Rule
 blank = record { clauses = []; decision = 0 }
@@ -115,4 +116,9 @@ judged m values first decision-is place-is set-is = record {
   decision-is = decision-is;
   place-is = place-is;
   set-is = set-is;
+  refused = λ bears. decision-is ∙ lowered-refused (m .notes) values (rule-at (m .rules) (first-match (m .rules) values) .decision) bears;
+  no-laxer =
+    let less = lowered-less (m .notes) values (rule-at (m .rules) (first-match (m .rules) values) .decision) in
+    let same = ap (λ p. rule-at (m .rules) p .decision) place-is in
+    omega arith;
 }

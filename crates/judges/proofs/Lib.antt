@@ -1,5 +1,6 @@
 pub mod Defaults
 pub mod Firsts
 pub mod Judging
+pub mod Lowering
 pub mod Readings
 pub mod Seeing

@@ -1,6 +1,7 @@
 -- What a judge means, a table and the notes of its layers, and what each of its calls answers and leaves. Assumes nothing.
-use Prim.Native.Nat.{ℕ}
+use Prim.Native.Nat.{ℕ, _≤_}
 use mathlib.Core.Path.{_≡_}
+use mathlib.Core.Bool.{true}
 use mathlib.Core.List.{List}
 use Rattle.std.specs.declared.option.Option.{Option}
 use Rattle.std.specs.declared.result.Result.{Result}
@@ -14,7 +15,7 @@ use Rattle.rules.specs.Edits.{edited, edit-decline}
 use Rattle.rules.specs.Rules.{rule-at}
 use Rattle.judges.specs.declared.verdict.Verdict.{Verdict}
 use Rattle.judges.specs.Matches.{First-match, first-match, Matching, matching-set}
-use Rattle.judges.specs.Notes.{Note, lowered, withdraw-decline, withdrawn, give-back-decline, given-back}
+use Rattle.judges.specs.Notes.{Note, lowered, bears-withdrawn, withdraw-decline, withdrawn, give-back-decline, given-back}
 
 pub record Meaning : Type 0 where
   pub rules : List Rule
@@ -31,6 +32,9 @@ pub record Judged (m : Meaning) (values : List ℕ) (decision place set : ℕ) :
   pub decision-is : decision ≡ decided m values
   pub place-is : place ≡ first-match (m .rules) values
   pub set-is : set ≡ matching-set (m .rules) values
+  -- under any pile: a request that bears a withdrawn value is refused, and no decision is laxer than the table's own
+  pub refused : bears-withdrawn (m .notes) values ≡ true → decision ≡ 0
+  pub no-laxer : decision ≤ rule-at (m .rules) place .decision
 
 abbrev pub Verdict-on : {D : Type 0} → Meaning → List ℕ → (D → ℕ) → Verdict D → Type 0
 Verdict-on m values number v = Judged m values (number (v .decision)) (v .place) (v .matching)

@@ -23,26 +23,46 @@ abbrev pub holds-value : List ℕ → ℕ → Bool
 holds-value [] value = false
 holds-value (x ∷ xs) value = eqb x value || holds-value xs value
 
--- a request bearing a kept value is refused
-abbrev pub refuse-kept : List ℕ → Option ℕ → ℕ → ℕ
-refuse-kept kept None decision = decision
-refuse-kept kept (Some value) decision = cond (holds-value kept value) 0 decision
+-- the field that a note is on
+abbrev pub note-field : Note → ℕ
+note-field (withdrawals field kept) = field
+note-field (windows field list) = field
 
--- a request inside windows is lowered to their smallest cap, if that is stricter
-abbrev pub cap-inside : List Window → Option ℕ → ℕ → ℕ
-cap-inside list None decision = decision
-cap-inside [] (Some value) decision = decision
-cap-inside (w ∷ ws) (Some value) decision = cond (inside (w .interval) value) (min (w .cap) (cap-inside ws (Some value) decision)) (cap-inside ws (Some value) decision)
+-- a request bearing a kept value is refused
+abbrev pub refuse-kept : List ℕ → ℕ → ℕ → ℕ
+refuse-kept kept value decision = cond (holds-value kept value) 0 decision
+
+-- a request inside windows is lowered to their smallest cap, if that is stricter; both ends of a window are inside
+-- Example: inside windows capped 5 and 3, decision 9 becomes 3 and decision 2 stays 2.
+abbrev pub cap-inside : List Window → ℕ → ℕ → ℕ
+cap-inside [] value decision = decision
+cap-inside (w ∷ ws) value decision = cond (inside (w .interval) value) (min (w .cap) (cap-inside ws value decision)) (cap-inside ws value decision)
+
+-- what one note makes of a decision, given the value of its field
+abbrev pub noted-value : Note → Option ℕ → ℕ → ℕ
+noted-value note None decision = decision
+noted-value (withdrawals field kept) (Some value) decision = refuse-kept kept value decision
+noted-value (windows field list) (Some value) decision = cap-inside list value decision
 
 -- what one note makes of a decision on a request of these values
 abbrev pub noted : Note → List ℕ → ℕ → ℕ
-noted (withdrawals field kept) values decision = refuse-kept kept (of-field values field) decision
-noted (windows field list) values decision = cap-inside list (of-field values field) decision
+noted note values decision = noted-value note (of-field values (note-field note)) decision
 
 -- lowered by each note, from the innermost outwards
 abbrev pub lowered : List Note → List ℕ → ℕ → ℕ
 lowered [] values decision = decision
 lowered (note ∷ notes) values decision = noted note values (lowered notes values decision)
+
+-- a withdrawal note keeps the value that the request bears in its field
+abbrev pub bears-kept : Note → Option ℕ → Bool
+bears-kept note None = false
+bears-kept (withdrawals field kept) (Some value) = holds-value kept value
+bears-kept (windows field list) (Some value) = false
+
+-- the request bears a value that some withdrawal note keeps
+abbrev pub bears-withdrawn : List Note → List ℕ → Bool
+bears-withdrawn [] values = false
+bears-withdrawn (note ∷ notes) values = bears-kept note (of-field values (note-field note)) || bears-withdrawn notes values
 
 -- what the outermost withdrawal note on a field keeps, if there is one
 abbrev pub kept-on : List Note → ℕ → Option (List ℕ)
