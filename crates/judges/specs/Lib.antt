@@ -1,3 +1,5 @@
+pub mod Keeping
+pub mod Kept
 pub mod Matches
 pub mod Meanings
 pub mod Notes

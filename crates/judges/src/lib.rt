@@ -1,7 +1,12 @@
 // Judges: the interface that every judge and layer keeps, and the scan, which reads a table from the top.
+pub mod capping;
 pub mod judge;
+pub mod keeper;
+pub mod kept_values;
+pub mod kept_windows;
 mod reading;
 pub mod scan;
 pub mod verdict;
 mod view;
 pub mod window;
+pub mod withdrawing;
