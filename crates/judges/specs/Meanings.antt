@@ -2,7 +2,7 @@
 use Prim.Native.Nat.{ℕ, _≤_}
 use mathlib.Core.Path.{_≡_}
 use mathlib.Core.Bool.{true}
-use mathlib.Core.List.{List}
+use mathlib.Core.List.{List, _∷_}
 use Rattle.std.specs.declared.option.Option.{Option}
 use Rattle.std.specs.declared.result.Result.{Result}
 use Rattle.std.specs.Vec.{made}
@@ -20,6 +20,10 @@ use Rattle.judges.specs.Notes.{Note, lowered, bears-withdrawn, withdraw-declin
 pub record Meaning : Type 0 where
   pub rules : List Rule
   pub notes : List Note
+
+-- a layer over a judge: the table from below, and the layer's own note before the notes below
+abbrev pub over : Note → Meaning → Meaning
+over note m = record { rules = m .rules; notes = note ∷ m .notes }
 
 -- the decision on a request: the first matching rule's, lowered by the notes
 abbrev pub decided : Meaning → List ℕ → ℕ

@@ -1,0 +1,17 @@
+use mathlib.Core.Path.{_≡_, sym, ap, _∙_}
+use native.Mathlib.Omega.{arith}
+use Prim.Native.Nat.{ℕ}
+use Rattle.std.specs.declared.option.Option.the-variants.{Some}
+use Rattle.judges.specs.Notes.{noted-value}
+use Rattle.judges.proofs.Layering.{lowered-made}
+use Rattle.judges.proofs.layer.lowered.Needs as need
+
+pub unreachable-requires : need.unreachable-requires
+unreachable-requires g c κs =
+    let note = g .N·Keeper .note (c .args .kept .now) in
+    let number = g .D·DecisionKind .number (c .args .verdict .decision) in
+    let can = lowered-made note (Some (c .in-Some .value)) (g .D·DecisionKind .count) number (c .from .result) (g .D·DecisionKind·met .numbered (c .args .verdict .decision))
+      (c .from .ensures ∙ c .lower-number .ensures ∙ ap (noted-value note (Some (c .in-Some .value))) (c .number .ensures)) in
+    let told = c .in-Err .ensures tt .answer in
+    let z : _≡_ {A = ℕ} 0 1 = cc in
+    omega arith
