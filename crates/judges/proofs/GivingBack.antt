@@ -26,14 +26,14 @@ module _ (on field value : ℕ) (values : List ℕ) (own : eqb on field ≡ true
   pub give-back-missing : length values ≤ index-of values value
       → Acted give-back-checks given-back (withdrawals on values) field value (Some (Some NotWithdrawn)) (withdrawals on values)
   give-back-missing past = record {
-      answers = sym (answer false (holds-index values value ∙ le-ltb (index-of values value) (length values) past));
-      leaves = refl;
-    }
+    answers = sym (answer false (holds-index values value ∙ le-ltb (index-of values value) (length values) past));
+    leaves = refl;
+  }
 
   pub give-back-removed : (after : List ℕ) → index-of values value < length values → after ≡ removed values (index-of values value)
       → Acted give-back-checks given-back (withdrawals on values) field value (Some None) (withdrawals on after)
   give-back-removed after there done = record {
-      answers = sym (answer true (holds-index values value ∙ lt-ltb (index-of values value) (length values) there));
-      leaves = ap (λ l. withdrawals on l ∷ []) (done ∙ sym (without-index values value there))
+    answers = sym (answer true (holds-index values value ∙ lt-ltb (index-of values value) (length values) there));
+    leaves = ap (λ l. withdrawals on l ∷ []) (done ∙ sym (without-index values value there))
         ∙ sym (ap (λ t. cond t (withdrawals on (without (kept-or-none (cond t (Some values) None)) value) ∷ []) (withdrawals on values ∷ [])) own);
-    }
+  }

@@ -118,7 +118,7 @@ judged m values first decision-is place-is set-is = record {
   set-is = set-is;
   refused = λ bears. decision-is ∙ lowered-refused (m .notes) values (rule-at (m .rules) (first-match (m .rules) values) .decision) bears;
   no-laxer =
-    let less = lowered-less (m .notes) values (rule-at (m .rules) (first-match (m .rules) values) .decision) in
-    let same = ap (λ p. rule-at (m .rules) p .decision) place-is in
-    omega arith;
+      let less = lowered-less (m .notes) values (rule-at (m .rules) (first-match (m .rules) values) .decision) in
+      let same = ap (λ p. rule-at (m .rules) p .decision) place-is in
+      omega arith;
 }

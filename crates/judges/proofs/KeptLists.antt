@@ -77,15 +77,15 @@ blank = record { interval = from-to 0 0; cap = 0 }
 abbrev pub Capped : List Window → ℕ → ℕ → ℕ → ℕ → Type 0
 Capped list value number least k = cap-inside list value number ≡ cap-inside (drop k list) value least
 
-pub capped-step : (list : List Window) (value number least k : ℕ) (t : Bool) → k < length list → inside (getD list k blank .interval) value ≡ t → Capped list value number least k
-    → Capped list value number (cond t (min least (getD list k blank .cap)) least) (k + 1)
-capped-step list value number least k true here test so-far =
-    so-far ∙ ap (λ l. cap-inside l value least) (drop-more list k blank here)
-    ∙ ap (λ b. cond b (min (getD list k blank .cap) (cap-inside (drop (k + 1) list) value least)) (cap-inside (drop (k + 1) list) value least)) test
-    ∙ sym (cap-after (drop (k + 1) list) value least (getD list k blank .cap))
-capped-step list value number least k false here test so-far =
-    so-far ∙ ap (λ l. cap-inside l value least) (drop-more list k blank here)
-    ∙ ap (λ b. cond b (min (getD list k blank .cap) (cap-inside (drop (k + 1) list) value least)) (cap-inside (drop (k + 1) list) value least)) test
+one-more : (list : List Window) (value least k : ℕ) (b : Bool) → cond b (min (getD list k blank .cap) (cap-inside (drop (k + 1) list) value least)) (cap-inside (drop (k + 1) list) value least)
+    ≡ cap-inside (drop (k + 1) list) value (cond b (min least (getD list k blank .cap)) least)
+one-more list value least k true = sym (cap-after (drop (k + 1) list) value least (getD list k blank .cap))
+one-more list value least k false = refl
+
+pub capped-more : (list : List Window) (value number least k now : ℕ) → k < length list
+    → now ≡ cond (inside (getD list k blank .interval) value) (min least (getD list k blank .cap)) least → Capped list value number least k → Capped list value number now (k + 1)
+capped-more list value number least k now here is so-far =
+    so-far ∙ ap (λ l. cap-inside l value least) (drop-more list k blank here) ∙ one-more list value least k (inside (getD list k blank .interval) value) ∙ ap (cap-inside (drop (k + 1) list) value) (sym is)
 
 pub capped-end : (list : List Window) (value number least k : ℕ) → length list ≤ k → Capped list value number least k → cap-inside list value number ≡ least
 capped-end list value number least k end so-far = so-far ∙ ap (λ l. cap-inside l value least) (drop-all k list end)

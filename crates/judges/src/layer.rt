@@ -1,8 +1,8 @@
 // A layer over any judge, which it holds by value: again a judge, with the table from below and its own note before the notes below.
 // It is written and proved once, for everything that a layer may keep.
-ghost use mathlib.Core.Path.{_≡_};
+ghost use Prim.Native.Nat.{ℕ};
 ghost use Rattle.judges.specs.Layers.{layer-meaning};
-ghost use Rattle.judges.specs.Notes.{noted};
+ghost use Rattle.judges.specs.Meanings.{Meaning, Verdict-on, Judged-under, over};
 use crate::judge::Judge;
 use crate::keeper::Keeper;
 use crate::reading::value_decline;
@@ -18,11 +18,13 @@ pub struct Layer<N, J> {
     pub(crate) below: J,
 }
 
-// The verdict with its decision lowered by the note; place and matching set are those of the table.
-fn lowered<N: Keeper, Q: RequestKind, D: DecisionKind>(kept: &N, request: &Q, verdict: Verdict<D>) -> Verdict<D>
-    ensures place { λ r. ⌜ r .place ≡ verdict .place ⌝ }
-    ensures matching { λ r. ⌜ r .matching ≡ verdict .matching ⌝ }
-    ensures decision { λ r. ⌜ D·DecisionKind .number (r .decision) ≡ noted (N·Keeper .note (now (kept .entry))) (Q·RequestKind .values (now (request .entry))) (D·DecisionKind .number (verdict .decision)) ⌝ }
+// The verdict with its decision lowered by the note: where it was a judge's verdict, it is now that of the layer over it.
+fn lowered<N: Keeper, Q: RequestKind, D: DecisionKind>(
+    kept: &N,
+    request: &Q,
+    verdict: Verdict<D>,
+) -> Verdict<D>
+    ensures { λ r. ⌜ ((m : Meaning) → Verdict-on m (Q·RequestKind .values (now (request .entry))) (D·DecisionKind .number) verdict → Verdict-on (over (N·Keeper .note (now (kept .entry))) m) (Q·RequestKind .values (now (request .entry))) (D·DecisionKind .number) r) ⌝ }
 {
     let Some(value) = request.value(kept.field()) else {
         return verdict;
@@ -38,8 +40,23 @@ fn lowered<N: Keeper, Q: RequestKind, D: DecisionKind>(kept: &N, request: &Q, ve
     }
 }
 
+// The same for a verdict under an edit, or the decline as it came from below.
+fn lowered_under<N: Keeper, Q: RequestKind, D: DecisionKind>(
+    kept: &N,
+    request: &Q,
+    answer: Result<Verdict<D>, Decline>,
+) -> Result<Verdict<D>, Decline>
+    ensures { λ r. ⌜ ((m : Meaning) (e : Edit ℕ) → Judged-under m (Q·RequestKind .values (now (request .entry))) e (D·DecisionKind .number) answer → Judged-under (over (N·Keeper .note (now (kept .entry))) m) (Q·RequestKind .values (now (request .entry))) e (D·DecisionKind .number) r) ⌝ }
+{
+    match answer {
+        Ok(verdict) => Ok(lowered(kept, request, verdict)),
+        Err(decline) => Err(decline),
+    }
+}
+
 pub impl<N: Keeper, J: Judge> Judge for Layer<N, J> as LayerJudge {
     type Request = J::Request;
+
     type Decision = J::Decision;
 
     ghost meaning = { λ l. layer-meaning (N·Keeper .note) (J·Judge .meaning) l };
@@ -48,11 +65,12 @@ pub impl<N: Keeper, J: Judge> Judge for Layer<N, J> as LayerJudge {
         lowered(&self.kept, request, self.below.judge(request))
     }
 
-    fn judge_under(&self, request: &J::Request, edit: &Edit<J::Decision>) -> Result<Verdict<J::Decision>, Decline> {
-        match self.below.judge_under(request, edit) {
-            Ok(verdict) => Ok(lowered(&self.kept, request, verdict)),
-            Err(decline) => Err(decline),
-        }
+    fn judge_under(
+        &self,
+        request: &J::Request,
+        edit: &Edit<J::Decision>,
+    ) -> Result<Verdict<J::Decision>, Decline> {
+        lowered_under(&self.kept, request, self.below.judge_under(request, edit))
     }
 
     fn edit(&mut self, edit: &Edit<J::Decision>) -> Result<(), Decline> {

@@ -10,6 +10,6 @@ pub mod scan;
 pub mod verdict;
 mod view;
 pub mod window;
-pub mod withdrawing;
 pub mod windows;
 pub mod withdrawals;
+pub mod withdrawing;
