@@ -11,6 +11,8 @@ mod example;
 #[cfg(test)]
 mod grade;
 #[cfg(test)]
+mod layers;
+#[cfg(test)]
 mod makers;
 #[cfg(test)]
 mod other_kinds;

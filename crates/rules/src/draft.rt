@@ -16,6 +16,7 @@ use crate::interval::Interval;
 use crate::kind::DecisionKind;
 use crate::kind::RequestKind;
 use crate::limits::Limits;
+use crate::rule::Clauses;
 use crate::rule::Rule;
 use crate::rule_list::RuleList;
 use crate::table::Table;
@@ -49,7 +50,7 @@ fn clauses_decline(ranges: &[Interval], clauses: &[Interval]) -> Option<Decline>
 }
 
 // The clauses of the fields that there are, and none that runs backward behind them.
-fn asked(clauses: &[Interval], fields: usize) -> [Interval; 6]
+fn asked(clauses: &[Interval], fields: usize) -> Clauses
     requires within { ⌜ (fields ≤ 6) × (fields ≤ length (now clauses)) ⌝ }
     requires run { ⌜ every forward (take fields (now clauses)) ≡ true ⌝ }
     ensures same { λ r. ⌜ take fields r ≡ take fields (now (clauses .entry)) ⌝ }
@@ -80,7 +81,7 @@ impl<Q: RequestKind, D: DecisionKind> Draft<Q, D> {
 
     // Adds a rule directly above the default. Clauses past the kind's fields are not asked.
     // Declined 7 where there are 63 rules already, then field by field 5 and 6; the draft is then as it was.
-    pub fn add(&mut self, clauses: [Interval; 6], decision: D) -> Result<(), Decline>
+    pub fn add(&mut self, clauses: Clauses, decision: D) -> Result<(), Decline>
         ensures added { λ r. ⌜ Added (Q·RequestKind .ranges) (draft-rules (Q·RequestKind .ranges) (D·DecisionKind .count) (now (self .entry))) clauses (D·DecisionKind .number decision) (declined r) (draft-rules (Q·RequestKind .ranges) (D·DecisionKind .count) (now (self .exit))) ⌝ }
         ensures same { λ r. ⌜ refused r (λ _. now (self .exit) ≡ now (self .entry)) ⌝ }
     {

@@ -8,6 +8,7 @@ ghost use Rattle.rules.specs.Intervals.{forward, every};
 use crate::interval::Interval;
 use crate::kind::DecisionKind;
 use crate::kind::RequestKind;
+use crate::rule::Clauses;
 
 #[derive(Clone, Copy)]
 pub struct Limits {
@@ -22,7 +23,7 @@ pub struct Limits {
 }
 
 // The clauses of a rule that matches every request of the kind: its ranges, from the start of the array.
-pub fn whole_ranges<Q: RequestKind>() -> [Interval; 6]
+pub fn whole_ranges<Q: RequestKind>() -> Clauses
     ensures { λ r. ⌜ take (length (Q·RequestKind .ranges)) r ≡ Q·RequestKind .ranges ⌝ }
 {
     let mut ranges = [Interval { lower: 0, upper: 0 }; 6];

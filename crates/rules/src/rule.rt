@@ -10,9 +10,12 @@ use crate::interval::Interval;
 use crate::interval::IntervalDebug;
 use crate::limits::Limits;
 
+// A clause for each field, in order; those past the kind's fields are not asked.
+pub type Clauses = [Interval; 6];
+
 #[derive(Clone, Copy, Debug)]
 pub struct Rule {
-    pub clauses: [Interval; 6],
+    pub clauses: Clauses,
     pub decision: u8,
 }
 
