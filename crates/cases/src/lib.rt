@@ -11,11 +11,11 @@ mod example;
 #[cfg(test)]
 mod grade;
 #[cfg(test)]
-mod layers;
-#[cfg(test)]
 mod makers;
 #[cfg(test)]
 mod other_kinds;
+#[cfg(test)]
+mod piles;
 #[cfg(test)]
 mod reading;
 #[cfg(test)]

@@ -87,15 +87,19 @@ fn a_packet_tells_its_values_back() -> Result<(), Fail> {
 
 #[test]
 fn decisions_by_number() -> Result<(), Fail> {
-    check_eq(declined(Minutes::new(0)), 9)?;
-    check_eq(Minutes::new(1)?.value(), 1)?;
-    check_eq(Minutes::new(240)?.value(), 240)?;
-    check_eq(declined(Minutes::new(241)), 9)?;
-    check_eq(CommandDecision::make(0)?.number(), 0)?;
-    check_eq(CommandDecision::make(1)?.number(), 1)?;
-    check_eq(CommandDecision::make(2)?.number(), 2)?;
-    check_eq(CommandDecision::make(241)?.number(), 241)?;
+    for (minutes, number) in [(0, 9), (1, 0), (240, 0), (241, 9), (4294967295, 9)] {
+        check_eq(declined(Minutes::new(minutes)), number)?;
+    }
+    for number in [0, 1, 2, 241] {
+        check_eq(u32::from(CommandDecision::make(number)?.number()), number)?;
+    }
     check_eq(declined(CommandDecision::make(242)), 9)?;
-    check_eq(PacketDecision::make(1)?.number(), 1)?;
+    check_eq(
+        (
+            PacketDecision::make(0)?.number(),
+            PacketDecision::make(1)?.number(),
+        ),
+        (0, 1),
+    )?;
     check_eq(declined(PacketDecision::make(2)), 9)
 }

@@ -13,26 +13,25 @@ use rules::decline::DeclineDebug;
 use rules::draft::Draft;
 use rules::edit::Edit;
 use rules::kind::DecisionKind;
+use rules::kind::RequestKind;
 use std::test::*;
 
 #[test]
 fn the_three_tests(rt: LibcRuntime) -> Result<(), Fail> {
     let scan = Scan::new(table(rt.alloc())?);
-    let first = scan.judge(&Command::new(150, 3, 7, 2, 600)?);
-    check_eq(
-        (first.decision.number(), first.place, first.matching),
-        (1, 1, 11),
-    )?;
-    let second = scan.judge(&Command::new(120, 2, 7, 2, 600)?);
-    check_eq(
-        (second.decision.number(), second.place, second.matching),
-        (1, 1, 9),
-    )?;
-    let third = scan.judge(&Command::new(300, 2, 7, 5, 600)?);
-    check_eq(
-        (third.decision.number(), third.place, third.matching),
-        (11, 3, 12),
-    )
+    let tests = [
+        ([150, 3, 7, 2, 600], (1, 1, 11)),
+        ([120, 2, 7, 2, 600], (1, 1, 9)),
+        ([300, 2, 7, 5, 600], (11, 3, 12)),
+    ];
+    for (values, answer) in tests {
+        let verdict = scan.judge(&Command::make(&values)?);
+        check_eq(
+            (verdict.decision.number(), verdict.place, verdict.matching),
+            answer,
+        )?;
+    }
+    Ok(())
 }
 
 #[test]
@@ -73,36 +72,12 @@ fn under_an_edit_and_after_it(rt: LibcRuntime) -> Result<(), Fail> {
 fn declined_as_the_edit_would_be(rt: LibcRuntime) -> Result<(), Fail> {
     let scan = Scan::new(table(rt.alloc())?);
     let request = Command::new(150, 3, 7, 2, 600)?;
-    check_eq(
-        declined(scan.judge_under(
-            &request,
-            &Edit::Swap {
-                first: 1,
-                second: 4,
-            },
-        )),
-        11,
-    )?;
-    check_eq(
-        declined(scan.judge_under(
-            &request,
-            &Edit::Swap {
-                first: 2,
-                second: 2,
-            },
-        )),
-        12,
-    )?;
-    check_eq(
-        declined(scan.judge_under(
-            &request,
-            &Edit::Swap {
-                first: 0,
-                second: 5,
-            },
-        )),
-        10,
-    )?;
+    for (first, second, number) in [(1, 2, 0), (1, 4, 11), (2, 2, 12), (4, 1, 12), (0, 5, 10)] {
+        check_eq(
+            declined(scan.judge_under(&request, &Edit::Swap { first, second })),
+            number,
+        )?;
+    }
     check_eq(
         declined(scan.judge_under(
             &request,
@@ -147,13 +122,17 @@ fn the_default_at_place_sixty_four(rt: LibcRuntime) -> Result<(), Fail> {
 #[test]
 fn no_layer_stands_on_a_scan(rt: LibcRuntime) -> Result<(), Fail> {
     let mut scan = Scan::new(table(rt.alloc())?);
-    check_eq(declined(scan.withdraw(0, 0)), 14)?;
-    check_eq(declined(scan.withdraw(6, 0)), 14)?;
-    check_eq(declined(scan.withdraw(1, 10000)), 5)?;
-    check_eq(declined(scan.withdraw(2, 0)), 5)?;
-    check_eq(declined(scan.withdraw(1, 9999)), 15)?;
-    check_eq(declined(scan.give_back(0, 0)), 14)?;
-    check_eq(declined(scan.give_back(6, 0)), 14)?;
-    check_eq(declined(scan.give_back(5, 10080)), 5)?;
-    check_eq(declined(scan.give_back(5, 10079)), 15)
+    for (field, value, number) in [
+        (0, 0, 14),
+        (6, 0, 14),
+        (1, 10000, 5),
+        (2, 0, 5),
+        (5, 10080, 5),
+        (1, 9999, 15),
+        (5, 10079, 15),
+    ] {
+        check_eq(declined(scan.withdraw(field, value)), number)?;
+        check_eq(declined(scan.give_back(field, value)), number)?;
+    }
+    Ok(())
 }

@@ -3,19 +3,19 @@
 mod example;
 mod words;
 
-use judges::capping::KeptWindowsKeeper;
 use judges::judge::Judge;
-use judges::layer::LayerJudge;
 use judges::scan::Scan;
 use judges::scan::ScanJudge;
-use judges::windows::Windows;
-use judges::withdrawals::Withdrawals;
-use judges::withdrawing::KeptValuesKeeper;
 use kinds::command::Command;
 use kinds::command::CommandKind;
 use kinds::command_decision::CommandDecision;
 use kinds::command_decision::CommandDecisionDisplay;
 use kinds::command_decision::CommandDecisionKind;
+use layers::capping::KeptWindowsKeeper;
+use layers::layer::LayerJudge;
+use layers::windows::Windows;
+use layers::withdrawals::Withdrawals;
+use layers::withdrawing::KeptValuesKeeper;
 use rules::decline::DeclineDebug;
 use rules::decline::DeclineDisplay;
 use rules::decline::DeclineError;

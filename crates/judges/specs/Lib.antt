@@ -1,6 +1,3 @@
-pub mod Keeping
-pub mod Kept
-pub mod Layers
 pub mod Matches
 pub mod Meanings
 pub mod Notes

@@ -1,5 +1,0 @@
-use Rattle.judges.proofs.KeptLists.{Capped}
-use Rattle.judges.proofs.capping.least_cap.Given as given
-
-abbrev pub Inv-loop-window : given.InvT-loop-window
-Inv-loop-window l = Capped (l .windows) (l .value) (l .number) (l .least) (l .window-index)

@@ -1,5 +1,0 @@
-use Rattle.judges.proofs.KeptLists.{None-before}
-use Rattle.judges.proofs.withdrawing.index_of.Given as given
-
-abbrev pub Inv-loop-k : given.InvT-loop-k
-Inv-loop-k l = None-before (l .values) (l .value) (l .k)

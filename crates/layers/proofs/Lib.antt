@@ -1,0 +1,3 @@
+pub mod GivingBack
+pub mod KeptLists
+pub mod Layering
