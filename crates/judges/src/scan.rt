@@ -42,7 +42,8 @@ pub impl<Q: RequestKind, D: DecisionKind> Judge for Scan<Q, D> as ScanJudge {
         if let Some(decline) = self.table.edit_decline(edit) {
             return Err(decline);
         }
-        Ok(verdict(self.table.rules(), &Some(edit.plain()), request))
+        let plain = Some(edit.plain());
+        Ok(verdict(self.table.rules(), &plain, request))
     }
 
     fn edit(&mut self, edit: &Edit<D>) -> Result<(), Decline> {
