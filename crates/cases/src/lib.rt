@@ -1,5 +1,7 @@
 // Cases from outside the library: boundary values, every decline and its order, full tables, and kinds of one field
 // and of six fields, so that nothing leans on the two kinds that panels use. What is expected was worked out by hand.
+#![tactic(auto)]
+
 #[cfg(test)]
 mod button;
 #[cfg(test)]

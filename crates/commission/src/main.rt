@@ -1,5 +1,7 @@
 // The program that commissions a panel's table: it builds the example table, judges its tests, tries edits,
 // and piles a window and a withdrawal layer on, saying in words what was done and what was declined.
+#![tactic(auto)]
+
 mod example;
 mod words;
 

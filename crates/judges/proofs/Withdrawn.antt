@@ -1,4 +1,4 @@
--- What an accepted withdrawal bars, and what an accepted giving back frees. Assumes nothing.
+-- What an accepted withdrawal bars. Assumes nothing.
 use Rattle.std.proofs.Common.{◌≡◌, ℕ, Bool, true, false, cond, ◌||◌, eqb, List, [], ◌∷◌, ◌++◌, is_some, Some, None, Option, sym, refl, ap, ◌∙◌}
 use Rattle.std.proofs.lemmas.Bool.{both_ways, eqb-true, eq-eqb, or_left, or_right, or_from}
 use Rattle.rules.specs.declared.decline.Decline.{Decline}
@@ -12,27 +12,8 @@ holds_last : (kept : List ℕ) (value : ℕ) → holds_value (kept ++ (value ∷
 holds_last [] value = or_left (eqb value value) false (eq-eqb value value refl)
 holds_last (x ∷ xs) value = or_right (eqb x value) (holds_value (xs ++ (value ∷ [])) value) (holds_last xs value)
 
-without_gone : (kept : List ℕ) (value : ℕ) → holds_value (without kept value) value ≡ false
-without_gone [] value = refl
-without_gone (x ∷ xs) value = cases (eqb x value) refl (without_gone xs value)
-  where
-    cases : (b : Bool) → eqb x value ≡ b → holds_value (without xs value) value ≡ false → holds_value (cond b (without xs value) (x ∷ without xs value)) value ≡ false
-    cases true is rest = rest
-    cases false is rest = or_from (eqb x value) (holds_value (without xs value) value) is rest
-
 -- the outermost withdrawal note on a field, once it keeps another list
 module _ (field : ℕ) (new : List ℕ) where
-  kept_now : (notes : List Note) (kept : List ℕ) → kept_on notes field ≡ Some kept → kept_on (with_kept notes field new) field ≡ Some new
-  kept_now [] kept e = absurd (both_ways true (sym (ap is_some e)) refl)
-  kept_now (withdrawals f own ∷ notes) kept e = cases (eqb f field) refl e (λ there. kept_now notes kept there)
-    where
-      cases : (b : Bool) → eqb f field ≡ b → cond b (Some own) (kept_on notes field) ≡ Some kept
-          → (kept_on notes field ≡ Some kept → kept_on (with_kept notes field new) field ≡ Some new)
-          → kept_on (cond b (withdrawals f new ∷ notes) (withdrawals f own ∷ with_kept notes field new)) field ≡ Some new
-      cases true is there below = ap (λ b. cond b (Some new) (kept_on notes field)) is
-      cases false is there below = ap (λ b. cond b (Some own) (kept_on (with_kept notes field new) field)) is ∙ below there
-  kept_now (windows f list ∷ notes) kept e = kept_now notes kept e
-
   bears_now : (value : ℕ) (values : List ℕ) → holds_value new value ≡ true → of_field values field ≡ Some value
       → (notes : List Note) (kept : List ℕ) → kept_on notes field ≡ Some kept → bears_withdrawn (with_kept notes field new) values ≡ true
   bears_now value values held bears [] kept e = absurd (both_ways true (sym (ap is_some e)) refl)
@@ -66,17 +47,4 @@ module _ (ranges : List Interval) (m : Meaning) (field value : ℕ) {answer : Op
         let kept = kept_or_none (kept_on m.notes field) in
         ap (λ n. bears_withdrawn n.notes values) (leaves ∙ ap (λ a. left_by a (noted_meaning m (withdrawn m.notes field value)) m) taken)
         ∙ bears_now field (kept ++ (value ∷ [])) value values (holds_last kept value) bears m.notes there.0 there.1;
-  }
-
-  pub give_back_done : answer ≡ give_back_decline ranges m.notes field value → after ≡ left_by answer (noted_meaning m (given_back m.notes field value)) m
-      → GiveBackDone ranges m field value answer after
-  give_back_done declines leaves = record {
-    declines = declines;
-    leaves = leaves;
-    frees = λ taken.
-        let there = found (λ k. give_back_checks k value) refl (value_decline (of_field ranges field) value) (kept_on m.notes field) (sym declines ∙ taken) in
-        let kept = kept_or_none (kept_on m.notes field) in
-        ap (λ n. keeps n.notes field value) (leaves ∙ ap (λ a. left_by a (noted_meaning m (given_back m.notes field value)) m) taken)
-        ∙ ap (λ k. holds_value (kept_or_none k) value) (kept_now field (without kept value) m.notes there.0 there.1)
-        ∙ without_gone kept value;
   }

@@ -1,4 +1,6 @@
 // The kinds that panels judge: keypad commands and gateway packets, with the decisions on each.
+#![tactic(auto)]
+
 pub mod command;
 pub mod command_decision;
 pub mod minutes;

@@ -1,5 +1,7 @@
 // Layers over any judge: withdrawals, which refuse the values that they keep, and windows, which lower decisions inside them.
 // Each layer over a judge is again a judge.
+#![tactic(auto)]
+
 pub mod capping;
 pub mod keeper;
 pub mod kept_values;

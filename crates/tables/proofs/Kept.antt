@@ -125,12 +125,11 @@ delete_keeps xs place low high sound =
       wide_end = same_end xs (remove xs i) (delete_end xs place low high) sound.wide_end;
     }
 
--- the facts of a `RuleList`, from those of its list of rules
-pub ghosts : (v : Vec Rule Global) (rules : List Rule) → vec_items v ≡ rules → 1 ≤ vec_len v → vec_len v ≤ 64 → 64 ≤ vec_capacity v → Sound rules
-    → (1 ≤ vec_len v) × ((vec_len v ≤ 64) × ((64 ≤ vec_capacity v) × ((every forward_rule (vec_items v) ≡ true) × ((every wide (rule_at (vec_items v) (vec_len v)).clauses ≡ true) × Unit {0}))))
-ghosts v rules is some few room sound =
-    let whole = ap (λ n. every wide (rule_at (vec_items v) n).clauses) v.ok.0 ∙ ap wide_last is ∙ sound.wide_end in
-    (some, (few, (room, (ap (every forward_rule) is ∙ sound.forward, (whole, tt)))))
+-- the facts of a `RuleList` on its rules, from those of its list of rules
+pub ghosts : (v : Vec Rule Global) (rules : List Rule) → vec_items v ≡ rules → Sound rules
+    → (every forward_rule (vec_items v) ≡ true) × (every wide (rule_at (vec_items v) (vec_len v)).clauses ≡ true)
+ghosts v rules is sound =
+    (ap (every forward_rule) is ∙ sound.forward, ap (λ n. every wide (rule_at (vec_items v) n).clauses) v.ok.0 ∙ ap wide_last is ∙ sound.wide_end)
 
 -- and back
 pub sound_of : (v : Vec Rule Global) → every forward_rule (vec_items v) ≡ true → every wide (rule_at (vec_items v) (vec_len v)).clauses ≡ true → Sound (vec_items v)

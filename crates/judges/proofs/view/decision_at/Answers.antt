@@ -6,7 +6,7 @@ use Rattle.judges.proofs.view.decision_at.Goals as goal
 
 pub returns : goal.returns
 returns c =
-    let least = c.saturating-sub-greatest.ensures ∙ ap (λ n. n - 1) c.decisions.ensures in
-    c.decision-after.ensures
-    ∙ ap (decision_under c.args.edit.now c.args.place) (c.min.ensures ∙ (λ k. min (c.kept-rule.ensures k).decision (least k)))
+    let least = c.saturating_sub-greatest.ensures ∙ ap (λ n. n - 1) c.decisions.ensures in
+    c.decision_after.ensures
+    ∙ ap (decision_under c.args.edit.now c.args.place) (c.min.ensures ∙ (λ k. min (c.kept_rule.ensures k).decision (least k)))
     ∙ ap (λ rule. rule.decision) (sym (seen_rule c.args.rules.now c.args.edit.now c.args.limits.now c.requires.view c.args.place c.requires.placed.0 c.requires.placed.1))

@@ -9,8 +9,8 @@ source-requires c =
     let high = c.requires.placed.1 in
     omega arith
 
-pub offset-bounds-rules-source : goal.offset-bounds-rules-source
-offset-bounds-rules-source c =
+pub offset_bounds-rules-source : goal.offset_bounds-rules-source
+offset_bounds-rules-source c =
     let source = source_in c.args.rules.now c.args.edit.now c.args.limits.now c.requires.view c.args.place c.requires.placed.0 c.requires.placed.1 in
     let below : c.source.result - 1 < length c.args.rules.now = omega arith in
     search rules

@@ -11,5 +11,5 @@ returns c =
     let ranges = ranges_in c.args.limits.now in
     let values = c.args.values.now in
     c.matches.ensures
-    ∙ ap (λ rule. within (cut_clauses ranges rule.clauses) values) c.kept-rule.ensures
+    ∙ ap (λ rule. within (cut_clauses ranges rule.clauses) values) c.kept_rule.ensures
     ∙ ap (λ rule. within rule.clauses values) (sym (seen_rule c.args.rules.now c.args.edit.now c.args.limits.now c.requires.view c.args.place c.requires.placed.0 c.requires.placed.1))

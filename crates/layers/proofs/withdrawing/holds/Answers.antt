@@ -4,4 +4,4 @@ use Rattle.layers.proofs.KeptLists.{holds_index}
 use Rattle.layers.proofs.withdrawing.holds.Goals as goal
 
 pub returns : goal.returns
-returns c = ap (λ i. ltb i (length c.args.values.now)) c.index-of.ensures ∙ sym (holds_index c.args.values.now c.args.value)
+returns c = ap (λ i. ltb i (length c.args.values.now)) c.index_of.ensures ∙ sym (holds_index c.args.values.now c.args.value)

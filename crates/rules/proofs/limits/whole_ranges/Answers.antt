@@ -3,7 +3,7 @@ use Rattle.std.proofs.Common.{◌≡◌, length, refl, subst, arith}
 use Rattle.rules.specs.Intervals.{from_to}
 use Rattle.rules.proofs.Gathered.{BlankPast, gathered_more, gathered_none, gathered_all, blank_more}
 use Rattle.rules.proofs.limits.whole_ranges.Goals as goal
-use Rattle.rules.proofs.limits.whole_ranges.Goals.{in-Some, in-default}
+use Rattle.rules.proofs.limits.whole_ranges.Goals.{in-Some, in_default}
 
 pub loop-k-preserved : goal.loop-k-preserved
 loop-k-preserved g c =
@@ -12,7 +12,7 @@ loop-k-preserved g c =
     elim c.match-range.branch [
       | in-Some w ↦ rw w.ranges-is
           (gathered_more own c.loop-k.ranges c.loop-k.k w.in-Some.range (omega arith) (omega arith) c.loop-k.invariant.0 w.in-Some.ensures, blank_more (from_to 0 0) c.loop-k.ranges c.loop-k.k w.in-Some.range (omega arith) c.loop-k.invariant.0.0 c.loop-k.invariant.1)
-      | in-default w ↦ gathered_none own c.loop-k.k (from_to 0 0) (omega arith) w.in-default.ensures
+      | in_default w ↦ gathered_none own c.loop-k.k (from_to 0 0) (omega arith) w.in_default.ensures
     ]
 
 pub returns : goal.returns

@@ -2,7 +2,7 @@
 use Rattle.std.proofs.Common.{refl, arith}
 use Rattle.rules.proofs.Gathered.{gathered_more, gathered_none, gathered_all, within_length}
 use Rattle.rules.proofs.values.values_of.Goals as goal
-use Rattle.rules.proofs.values.values_of.Goals.{in-Some, in-default}
+use Rattle.rules.proofs.values.values_of.Goals.{in-Some, in_default}
 
 pub loop-k-preserved : goal.loop-k-preserved
 loop-k-preserved g c =
@@ -11,7 +11,7 @@ loop-k-preserved g c =
     let few = g.met.Q.RequestKind.ranged in
     elim c.match-value.branch [
       | in-Some w ↦ rw w.values-is (gathered_more own c.loop-k.values c.loop-k.k w.in-Some.value (omega arith) (omega arith) c.loop-k.invariant w.in-Some.ensures)
-      | in-default w ↦ gathered_none own c.loop-k.k 0 (omega arith) w.in-default.ensures
+      | in_default w ↦ gathered_none own c.loop-k.k 0 (omega arith) w.in_default.ensures
     ]
 
 pub returns : goal.returns

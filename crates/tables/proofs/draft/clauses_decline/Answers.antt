@@ -11,7 +11,7 @@ returns-in-Some c =
 pub loop-k-preserved : goal.loop-k-preserved
 loop-k-preserved c =
     let pre = c.requires in
-    c.loop-k.invariant ∙ checks_more c.args.ranges.now c.args.clauses.now c.loop-k.k _ (omega arith) (omega arith) c.in-default.ensures
+    c.loop-k.invariant ∙ checks_more c.args.ranges.now c.args.clauses.now c.loop-k.k _ (omega arith) (omega arith) c.in_default.ensures
 
 pub returns : goal.returns
 returns c = sym (c.loop-k.invariant ∙ checks_all c.args.ranges.now c.args.clauses.now c.loop-k.k (omega arith))

@@ -15,5 +15,5 @@ verdict-requires g c =
     let list = c.args.self.now.table.list in
     let lawful = list_lawful list ranges count g.met.Q.RequestKind.ranged g.met.D.DecisionKind.counted.0 in
     let known = subst (Known count) (sym c.plain.ensures) (known_plain number count g.met.D.DecisionKind.numbered c.args.edit.now) in
-    let taken = ap (edit_decline (cut ranges count (vec_items list.rules))) c.plain.ensures ∙ sym c.in-default.ensures in
+    let taken = ap (edit_decline (cut ranges count (vec_items list.rules))) c.plain.ensures ∙ sym c.in_default.ensures in
     subst (λ rules. Readable ranges count rules (Some c.plain.result)) (sym c.rules.ensures) (record { lawful = lawful; taken = taken; known = known })

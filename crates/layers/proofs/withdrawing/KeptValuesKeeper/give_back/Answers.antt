@@ -10,14 +10,14 @@ pub returns-then-index-len : goal.returns-then-index-len
 returns-then-index-len c =
     let kept = c.args.self.now in
     let long = kept.values.ok.0 in
-    let at : c.index-of-index.result ≡ index_of (vec_items kept.values) c.args.value = c.index-of-index.ensures ∙ ap (λ l. index_of l c.args.value) c.as-slice.ensures.value in
+    let at : c.index_of-index.result ≡ index_of (vec_items kept.values) c.args.value = c.index_of-index.ensures ∙ ap (λ l. index_of l c.args.value) c.as_slice.ensures.value in
     give_back_missing kept.field c.args.field c.args.value (vec_items kept.values) (eq-eqb kept.field c.args.field (sym c.if-field-self.false)) (omega arith)
 
-pub invariant-of-self : goal.invariant-of-self
-invariant-of-self c =
+pub invariant_of-self : goal.invariant_of-self
+invariant_of-self c =
     let kept = c.args.self.now in
     let long = kept.values.ok.0 in
-    let at : c.index-of-index.result ≡ index_of (vec_items kept.values) c.args.value = c.index-of-index.ensures ∙ ap (λ l. index_of l c.args.value) c.as-slice.ensures.value in
+    let at : c.index_of-index.result ≡ index_of (vec_items kept.values) c.args.value = c.index_of-index.ensures ∙ ap (λ l. index_of l c.args.value) c.as_slice.ensures.value in
     let out = c.remove.ensures.items ∙ ap (remove (vec_items kept.values)) at ∙ sym (without_index (vec_items kept.values) c.args.value kept.apart (omega arith)) in
     let apart : distinct (vec_items c.remove.new.self) ≡ true = ap distinct out ∙ distinct_without (vec_items kept.values) c.args.value kept.apart in
     (search rules, (search rules, (apart, tt)))
@@ -26,6 +26,6 @@ pub returns : goal.returns
 returns c =
     let kept = c.args.self.now in
     let long = kept.values.ok.0 in
-    let at : c.index-of-index.result ≡ index_of (vec_items kept.values) c.args.value = c.index-of-index.ensures ∙ ap (λ l. index_of l c.args.value) c.as-slice.ensures.value in
+    let at : c.index_of-index.result ≡ index_of (vec_items kept.values) c.args.value = c.index_of-index.ensures ∙ ap (λ l. index_of l c.args.value) c.as_slice.ensures.value in
     give_back_removed kept.field c.args.field c.args.value (vec_items kept.values) (eq-eqb kept.field c.args.field (sym c.if-field-self.false)) (vec_items c.remove.new.self) kept.apart (omega arith)
     (c.remove.ensures.items ∙ ap (remove (vec_items kept.values)) at)

@@ -5,8 +5,8 @@ use Rattle.rules.specs.Rules.{above_default}
 use Rattle.tables.proofs.Kept.{ghosts, sound_of, add_keeps}
 use Rattle.tables.proofs.rule_list.RuleList.add.Goals as goal
 
-pub invariant-of-self : goal.invariant-of-self
-invariant-of-self c =
+pub invariant_of-self : goal.invariant_of-self
+invariant_of-self c =
     let old = c.args.self.now in
     let long = old.rules.ok.0 in
     let sound = sound_of old.rules old.run old.whole in
@@ -17,4 +17,5 @@ invariant-of-self c =
     let at : c.len-last.result - 1 ≡ length rules - 1 = omega arith in
     let got : vec_items c.insert.new.self ≡ above_default rules c.args.rule
     = c.insert.ensures.items ∙ ap (λ b. cond b (insert rules (c.len-last.result - 1) c.args.rule) rules) ok ∙ ap (λ i. insert rules i c.args.rule) at in
-    ghosts c.insert.new.self (above_default rules c.args.rule) got (omega arith) (omega arith) (omega arith) (add_keeps rules c.args.rule (omega arith) c.requires.run sound)
+    let kept = ghosts c.insert.new.self (above_default rules c.args.rule) got (add_keeps rules c.args.rule (omega arith) c.requires.run sound) in
+    record { some = omega arith; few = omega arith; room = omega arith; run = kept.0; whole = kept.1 }

@@ -7,8 +7,8 @@ use Rattle.tables.specs.Edits.{edited, with_decision}
 use Rattle.tables.proofs.Kept.{ghosts, sound_of, change_keeps}
 use Rattle.tables.proofs.rule_list.RuleList.change.Goals as goal
 
-pub invariant-of-self : goal.invariant-of-self
-invariant-of-self c =
+pub invariant_of-self : goal.invariant_of-self
+invariant_of-self c =
     let old = c.args.self.now in
     let long = old.rules.ok.0 in
     let sound = sound_of old.rules old.run old.whole in
@@ -16,7 +16,8 @@ invariant-of-self c =
     let i = c.args.place - 1 in
     let pre = c.requires in
     let within : i < length rules = omega arith in
-    let read = get_or_read rules i c.index-mut.result.now within c.index-mut.ensures.value (record { clauses = []; decision = 0 }) in
-    ghosts (with_item old.rules i (with_decision c.index-mut.result.now c.args.decision)) (edited rules (Change c.args.place c.args.decision))
-    (ap (λ rule. set rules i (with_decision rule c.args.decision)) read) old.some old.few old.room
-    (change_keeps rules c.args.place c.args.decision (omega arith) (omega arith) sound)
+    let read = get_or_read rules i c.index_mut.result.now within c.index_mut.ensures.value (record { clauses = []; decision = 0 }) in
+    let kept = ghosts (with_item old.rules i (with_decision c.index_mut.result.now c.args.decision)) (edited rules (Change c.args.place c.args.decision))
+    (ap (λ rule. set rules i (with_decision rule c.args.decision)) read)
+    (change_keeps rules c.args.place c.args.decision (omega arith) (omega arith) sound) in
+    record { some = old.some; few = old.few; room = old.room; run = kept.0; whole = kept.1 }

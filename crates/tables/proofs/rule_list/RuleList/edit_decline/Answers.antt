@@ -9,7 +9,7 @@ pub returns-in-Change : goal.returns-in-Change
 returns-in-Change c ranges =
     let list = c.args.self.now.rules in
     let long = c.len.ensures ∙ list.ok.0 ∙ sym (length_cut ranges c.args.decisions (vec_items list)) in
-    let present = c.decision-number.ensures ∙ sym (decision_at_cut ranges c.args.decisions (vec_items list) c.in-Change.place) in
+    let present = c.decision_number.ensures ∙ sym (decision_at_cut ranges c.args.decisions (vec_items list) c.in-Change.place) in
     c.change_decline.ensures ∙ (λ k. change_decline (long k) c.in-Change.place (present k) c.in-Change.decision) ∙ ap (edit_decline (cut ranges c.args.decisions (vec_items list))) (sym c.in-Change.is)
 
 pub returns-in-Swap : goal.returns-in-Swap

@@ -3,10 +3,11 @@ use Rattle.std.proofs.Common.{◌≡◌, ◌<◌, ◌≤◌, length, vec_items, 
 use Rattle.tables.proofs.Kept.{ghosts, sound_of, swap_keeps}
 use Rattle.tables.proofs.rule_list.RuleList.swap.Goals as goal
 
-pub invariant-of-self : goal.invariant-of-self
-invariant-of-self c =
+pub invariant_of-self : goal.invariant_of-self
+invariant_of-self c =
     let old = c.args.self.now in
     let long = old.rules.ok.0 in
     let sound = sound_of old.rules old.run old.whole in
     let pre = c.requires in
-    ghosts c.swap.new.self _ c.swap.ensures.items (omega arith) (omega arith) (omega arith) (swap_keeps (vec_items old.rules) c.args.first c.args.second (omega arith) (omega arith) (omega arith) sound)
+    let kept = ghosts c.swap.new.self _ c.swap.ensures.items (swap_keeps (vec_items old.rules) c.args.first c.args.second (omega arith) (omega arith) (omega arith) sound) in
+    record { some = omega arith; few = omega arith; room = omega arith; run = kept.0; whole = kept.1 }
