@@ -1,7 +1,7 @@
 -- The first match and the matching set, one place after the other from the top. Assumes nothing.
-use Rattle.std.proofs.Common.{◌≡◌, ℕ, zero, suc, ◌+◌, ◌-◌, ◌*◌, ◌%◌, ◌^◌, ◌<◌, ◌≤◌, Bool, true, false, cond, List, [], ◌∷◌, length, get_or, drop, sym, refl, ap, ◌∙◌, mul_assoc, mul_comm, mul-add, arith}
+use Rattle.std.proofs.Common.{◌≡◌, ℕ, suc, ◌+◌, ◌-◌, ◌*◌, ◌%◌, ◌^◌, ◌<◌, ◌≤◌, Bool, true, false, cond, List, [], length, get_or, drop, sym, ap, ◌∙◌, mul_assoc, mul-add, arith}
 use lib.Bits.{bit_or}
-use Rattle.std.proofs.lemmas.Nat.{one_shl, or_comm, or_shifted, pow_pos, pow-add}
+use Rattle.std.proofs.lemmas.Nat.{one_shl, or_comm, or_shifted, pow-add}
 use Rattle.std.proofs.lemmas.List.{drop_more, drop_all}
 use Rattle.rules.specs.declared.rule.Rule.{Rule}
 use Rattle.rules.specs.Rules.{matches, rule_at}

@@ -1,10 +1,10 @@
 -- What notes do to a decision, over any pile of them. Assumes nothing.
-use Rattle.std.proofs.Common.{◌≡◌, ℕ, ◌≤◌, min, Bool, true, false, cond, ◌||◌, List, [], ◌∷◌, ◌++◌, Some, None, Option, sym, refl, ap, ◌∙◌, ⊎_elim, le_trans, arith}
+use Rattle.std.proofs.Common.{◌≡◌, ℕ, ◌≤◌, min, Bool, true, false, cond, List, [], ◌∷◌, ◌++◌, Some, None, Option, sym, refl, ap, ◌∙◌, ⊎_elim, le_trans, arith}
 use Rattle.std.proofs.lemmas.Bool.{or_cases, or_parts, cond_both, both_ways}
 use Rattle.rules.specs.Intervals.{inside}
 use Rattle.rules.specs.Kinds.{of_field}
 use Rattle.judges.specs.declared.window.Window.{Window}
-use Rattle.judges.specs.Notes.{Note, withdrawals, windows, note_field, holds_value, refuse_kept, cap_inside, noted_value, noted, lowered, bears_kept, bears_withdrawn, caps_at, caps_of, caps_on, strictest}
+use Rattle.judges.specs.Notes.{Note, withdrawals, windows, note_field, holds_value, cap_inside, noted_value, lowered, bears_kept, bears_withdrawn, caps_at, caps_of, caps_on, strictest}
 
 cap_less : (list : List Window) (value decision : ℕ) → cap_inside list value decision ≤ decision
 cap_less [] value decision = omega arith

@@ -1,7 +1,6 @@
 -- A verdict on a table by limits that are the kinds' own. Assumes nothing.
-use Rattle.std.proofs.Common.{◌≡◌, ℕ, ◌<◌, ◌≤◌, true, not, ltb, List, [], length, Some, None, Option, sym, refl, ap, ◌∙◌, subst, arith}
+use Rattle.std.proofs.Common.{◌≡◌, ℕ, ◌<◌, ◌≤◌, true, not, List, [], length, None, Option, sym, ap, ◌∙◌, subst, arith}
 use Rattle.std.proofs.lemmas.Bool.{lt-ltb}
-use Rattle.rules.specs.declared.decline.Decline.{Decline}
 use Rattle.rules.specs.declared.decline.Decline.TheVariants.{NotOfKind}
 use Rattle.tables.specs.declared.edit.Edit.{Edit}
 use Rattle.tables.specs.declared.edit.Edit.TheVariants.{Change, Swap, Delete}

@@ -1,12 +1,12 @@
 -- What an accepted withdrawal bars. Assumes nothing.
-use Rattle.std.proofs.Common.{◌≡◌, ℕ, Bool, true, false, cond, ◌||◌, eqb, List, [], ◌∷◌, ◌++◌, is_some, Some, None, Option, sym, refl, ap, ◌∙◌}
-use Rattle.std.proofs.lemmas.Bool.{both_ways, eqb-true, eq-eqb, or_left, or_right, or_from}
+use Rattle.std.proofs.Common.{◌≡◌, ℕ, Bool, true, false, cond, eqb, List, [], ◌∷◌, ◌++◌, is_some, Some, None, Option, sym, refl, ap, ◌∙◌}
+use Rattle.std.proofs.lemmas.Bool.{both_ways, eqb-true, eq-eqb, or_left, or_right}
 use Rattle.rules.specs.declared.decline.Decline.{Decline}
 use Rattle.rules.specs.declared.interval.Interval.{Interval}
 use Rattle.rules.specs.Declines.{left_by, or_else}
 use Rattle.rules.specs.Kinds.{of_field}
-use Rattle.judges.specs.Meanings.{Meaning, noted_meaning, WithdrawDone, GiveBackDone}
-use Rattle.judges.specs.Notes.{Note, withdrawals, windows, holds_value, bears_kept, bears_withdrawn, kept_on, with_kept, without, kept_or_none, keeps, value_decline, withdraw_checks, give_back_checks, withdraw_decline, give_back_decline, withdrawn, given_back}
+use Rattle.judges.specs.Meanings.{Meaning, noted_meaning, WithdrawDone}
+use Rattle.judges.specs.Notes.{Note, withdrawals, windows, holds_value, bears_kept, bears_withdrawn, kept_on, with_kept, kept_or_none, value_decline, withdraw_checks, withdraw_decline, withdrawn}
 
 holds_last : (kept : List ℕ) (value : ℕ) → holds_value (kept ++ (value ∷ [])) value ≡ true
 holds_last [] value = or_left (eqb value value) false (eq-eqb value value refl)

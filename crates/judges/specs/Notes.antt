@@ -1,6 +1,6 @@
 -- The notes of layers: what each keeps, what it does to a decision, and how withdrawing and giving back change it. Assumes nothing.
 -- A list of notes has the outermost first. Fields are numbered from 1, decisions from 0, the strictest.
-use Rattle.std.specs.Prelude.{ℕ, min, Bool, true, false, cond, not, ◌||◌, List, [], ◌∷◌, ◌++◌, length, Some, None, Option, ◌==◌, nat_le}
+use Rattle.std.specs.Prelude.{ℕ, min, Bool, false, cond, not, ◌||◌, List, [], ◌∷◌, ◌++◌, length, Some, None, Option, ◌==◌, nat_le}
 use Rattle.rules.specs.declared.decline.Decline.{Decline}
 use Rattle.rules.specs.declared.decline.Decline.TheVariants.{NoSuchField, OutsideRange, NoWithdrawalLayer, AlreadyWithdrawn, NoteFull, NotWithdrawn}
 use Rattle.rules.specs.declared.interval.Interval.{Interval}

@@ -1,11 +1,10 @@
 -- What a loop gathers that asks a kind for one field after the other. Assumes nothing.
-use Rattle.std.proofs.Common.{◌≡◌, ℕ, zero, suc, ◌+◌, ◌-◌, ◌<◌, ◌≤◌, true, ◌&&◌, List, [], ◌∷◌, ◌++◌, length, get_or, take, drop, set, replicate, Some, None, Option, sym, refl, ap, ◌∙◌, le_of_suc-le-suc, not-suc-le-zero, add-one, arith}
+use Rattle.std.proofs.Common.{◌≡◌, ℕ, zero, suc, ◌+◌, ◌-◌, ◌<◌, ◌≤◌, true, List, [], ◌∷◌, length, get_or, take, drop, set, replicate, Some, None, sym, refl, ap, ◌∙◌, le_of_suc-le-suc, not-suc-le-zero, add-one, arith}
 use Rattle.std.proofs.lemmas.List.{take_all, take_more, take_more_set, length-set, drop_more, drop-set, drop-replicate}
 use Rattle.std.proofs.lemmas.Bool.{and_parts}
 use Rattle.rules.specs.declared.interval.Interval.{Interval}
 use Rattle.rules.specs.Intervals.{inside, within}
 use Rattle.rules.specs.Kinds.{of_field}
-use Rattle.rules.proofs.Matching.{within_uneven}
 
 pub within_length : (is : List Interval) (vs : List ℕ) → within is vs ≡ true → length is ≡ length vs
 within_length [] [] h = refl

@@ -1,5 +1,5 @@
 -- What a draft's call to add a rule leaves, on the rules as cut. Assumes nothing.
-use Rattle.std.proofs.Common.{◌≡◌, ℕ, ◌-◌, ◌<◌, ◌≤◌, min, true, false, leb, List, [], ◌∷◌, ◌++◌, length, take, drop, Some, None, Option, sym, refl, ap, ◌∙◌, arith}
+use Rattle.std.proofs.Common.{◌≡◌, ℕ, ◌-◌, ◌<◌, ◌≤◌, min, List, [], ◌∷◌, ◌++◌, length, take, drop, Some, None, sym, refl, ap, ◌∙◌, arith}
 use Rattle.std.proofs.lemmas.List.{append_assoc, take_at, drop_at, length_push}
 use Rattle.std.proofs.lemmas.Bool.{le-leb, lt-leb}
 use Rattle.rules.specs.declared.decline.Decline.{Decline}
@@ -8,7 +8,7 @@ use Rattle.rules.specs.declared.interval.Interval.{Interval}
 use Rattle.rules.specs.declared.rule.Rule.{Rule}
 use Rattle.tables.specs.Adding.{Added, add_decline, clauses_decline, given_rule}
 use Rattle.rules.specs.Declines.{unless}
-use Rattle.rules.specs.Rules.{cut, cut_rule, cut_clauses, above_default}
+use Rattle.rules.specs.Rules.{cut, above_default}
 use Rattle.tables.proofs.Adding.{taken_cut}
 use Rattle.tables.proofs.Cuts.{length_cut, cut_add}
 

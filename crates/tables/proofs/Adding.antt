@@ -1,15 +1,14 @@
 -- Adding a rule: the checks of its clauses one after the other, and that a rule in range is not cut. Assumes nothing.
-use Rattle.std.proofs.Common.{◌≡◌, ℕ, suc, ◌+◌, ◌-◌, ◌<◌, ◌≤◌, min, Bool, true, false, not, List, [], ◌∷◌, ◌++◌, length, get_or, take, drop, set, Some, None, Option, sym, refl, ap, ◌∙◌, le_of_suc-le-suc, not-suc-le-zero, arith}
-use Rattle.std.specs.List.{AllByRecursion as All}
+use Rattle.std.proofs.Common.{◌≡◌, ℕ, ◌+◌, ◌<◌, ◌≤◌, true, not, List, [], ◌∷◌, ◌++◌, length, get_or, take, drop, set, Some, None, Option, sym, refl, ap, ◌∙◌, le_of_suc-le-suc, not-suc-le-zero, arith}
 use Rattle.std.proofs.lemmas.List.{drop_more, drop_all, length-take, length-set, get_or-take, take_more, take_more_set}
 use Rattle.std.proofs.ByRecursion.{All-get_or, All-set}
-use Rattle.std.proofs.lemmas.Bool.{not-false, leb-true, and_from}
+use Rattle.std.proofs.lemmas.Bool.{not-false, and_from}
 use Rattle.rules.specs.declared.decline.Decline.{Decline}
 use Rattle.rules.specs.declared.decline.Decline.TheVariants.{OutsideRange, LowerAboveUpper}
 use Rattle.rules.specs.declared.interval.Interval.{Interval}
 use Rattle.rules.specs.Clauses.{clause_decline}
 use Rattle.tables.specs.Adding.{clauses_decline}
-use Rattle.rules.specs.Declines.{or_else, unless}
+use Rattle.rules.specs.Declines.{or_else}
 use Rattle.rules.specs.Intervals.{inside, forward, every, nearest, cut_interval, from_to}
 use Rattle.rules.specs.Rules.{cut_clauses}
 use Rattle.tables.proofs.Declining.{unless_none}

@@ -1,6 +1,6 @@
 -- Cut rules: they are lawful, and cutting goes before or after an edit alike. Assumes nothing.
-use Rattle.std.proofs.Common.{◌≡◌, ℕ, zero, suc, ◌+◌, ◌-◌, ◌^◌, ◌<◌, ◌≤◌, min, max, Bool, true, false, not, ◌&&◌, ◌||◌, eqb, List, [], ◌∷◌, ◌++◌, map, length, get_or, take, drop, set, vec_items, sym, refl, ap, ◌∙◌, ⊎_elim, arith}
-use Rattle.std.specs.List.{insert, remove, swap, AllByRecursion as All}
+use Rattle.std.proofs.Common.{◌≡◌, ℕ, suc, ◌-◌, ◌<◌, ◌≤◌, min, true, eqb, List, [], ◌∷◌, ◌++◌, map, length, get_or, take, drop, set, vec_items, sym, refl, ap, ◌∙◌, ⊎_elim, arith}
+use Rattle.std.specs.List.{insert, swap, AllByRecursion as All}
 use Rattle.std.proofs.ByRecursion.{All-map, All-weaker}
 use Rattle.std.proofs.lemmas.List.{map-set, map-append, take-map, drop-map, get_or-map, length-map, get_or_past}
 use Rattle.std.proofs.lemmas.Bool.{and_parts, leb-true, eqb-true, cases_lt}
@@ -9,10 +9,10 @@ use Rattle.rules.specs.declared.interval.Interval.{Interval}
 use Rattle.rules.specs.declared.rule.Rule.{Rule}
 use Rattle.tables.specs.declared.rule_list.RuleList.{RuleList}
 use Rattle.tables.specs.Edits.{edited, with_decision}
-use Rattle.rules.specs.Intervals.{every, wide, forward, Forward, Inside, nearest, cut_interval, from_to}
+use Rattle.rules.specs.Intervals.{every, wide, forward, Forward, nearest, cut_interval, from_to}
 use Rattle.rules.specs.Kinds.{LawfulRange, LawfulRanges}
 use Rattle.rules.specs.Rules.{rule_at, forward_rule, above_default, default_rule, cut_clauses, cut_rule, cut, Lawful, LawfulRule, LawfulClause, LawfulClauses}
-use Rattle.tables.proofs.Kept.{Sound, wide_last, every_all, sound_of}
+use Rattle.tables.proofs.Kept.{Sound, every_all, sound_of}
 
 abbrev blank : Rule
 blank = record { clauses = []; decision = 0 }

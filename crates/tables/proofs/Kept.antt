@@ -1,5 +1,5 @@
 -- What each change of a list of rules keeps: every clause runs forward, and the last rule is wide. Assumes nothing.
-use Rattle.std.proofs.Common.{◌≡◌, ℕ, zero, suc, ◌+◌, ◌-◌, ◌<◌, ◌≤◌, Bool, true, ◌&&◌, ◌⊎◌, List, [], ◌∷◌, ◌++◌, length, get_or, take, drop, set, vec_items, vec_len, vec_capacity, Vec, sym, refl, ap, ◌∙◌, subst, inl, inr, ⊎_elim, arith}
+use Rattle.std.proofs.Common.{◌≡◌, ℕ, suc, ◌+◌, ◌-◌, ◌<◌, ◌≤◌, Bool, true, List, [], ◌∷◌, length, get_or, take, drop, set, vec_items, vec_len, Vec, sym, refl, ap, ◌∙◌, subst, ⊎_elim, arith}
 use Rattle.std.specs.declared.alloc.Global.{Global}
 use Rattle.std.specs.List.{insert, remove, swap, AllByRecursion as All}
 use Rattle.std.proofs.ByRecursion.{All-set, All-take, All-drop, All-append, All-get_or}

@@ -1,6 +1,6 @@
 -- The single edits: what each makes of a table, and when it is declined. Assumes nothing.
 -- Places are numbered from 1; the default stands at the last place.
-use Rattle.std.specs.Prelude.{◌≡◌, ℕ, ◌-◌, ◌<◌, Bool, not, ◌&&◌, List, [], ◌∷◌, length, IfOk, Some, None, Option, Result, ◌==◌, nat_le, nat_lt, slice_set}
+use Rattle.std.specs.Prelude.{◌≡◌, ℕ, ◌-◌, ◌<◌, Bool, not, ◌&&◌, List, length, IfOk, None, Option, Result, ◌==◌, nat_le, nat_lt, slice_set}
 use Rattle.std.specs.List.{swap, remove}
 use Rattle.rules.specs.declared.decline.Decline.{Decline}
 use Rattle.rules.specs.declared.decline.Decline.TheVariants.{NoSuchPlace, DefaultStays, OutOfOrder, SameDecision}

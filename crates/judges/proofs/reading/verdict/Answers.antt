@@ -1,6 +1,5 @@
 -- The place, set and number that are read are those of the table cut to the kinds, so the decision can be made and the verdict is the table's.
-use Rattle.std.proofs.Common.{◌≡◌, ℕ, true, sym, ap, ◌∙◌, arith}
-use Rattle.rules.specs.Intervals.{within}
+use Rattle.std.proofs.Common.{◌≡◌, ℕ, ap, ◌∙◌, arith}
 use Rattle.judges.specs.Matches.{first_match, matching_set}
 use Rattle.judges.specs.Views.{seen}
 use Rattle.judges.proofs.Readings.{viewable, place_in, decision_made, verdict_judged}

@@ -1,5 +1,5 @@
 -- The loop stops at the first match: a match at the place reached is the first, and none is found past the last rule.
-use Rattle.std.proofs.Common.{◌≡◌, true, length, sym, ◌∙◌, arith}
+use Rattle.std.proofs.Common.{true, sym, ◌∙◌, arith}
 use Rattle.judges.specs.Views.{seen}
 use Rattle.judges.proofs.Firsts.{first_step, first_more, first_end}
 use Rattle.judges.proofs.Seeing.{length_seen}

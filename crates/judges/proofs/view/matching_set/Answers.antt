@@ -1,5 +1,5 @@
 -- Each turn sets the next bit exactly when its rule matches.
-use Rattle.std.proofs.Common.{◌≡◌, length, sym, ◌∙◌, arith}
+use Rattle.std.proofs.Common.{sym, ◌∙◌, arith}
 use Rattle.judges.specs.Views.{seen}
 use Rattle.judges.proofs.Firsts.{set_skip, set_take, set_end}
 use Rattle.judges.proofs.Seeing.{length_seen, seen_few}

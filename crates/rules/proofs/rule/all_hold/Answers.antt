@@ -1,7 +1,7 @@
 -- Each turn tests the next field; a value outside its clause ends it, and past the last all are inside.
-use Rattle.std.proofs.Common.{◌≡◌, Bool, ◌&&◌, sym, ◌∙◌, arith}
+use Rattle.std.proofs.Common.{sym, ◌∙◌, arith}
 use Rattle.rules.specs.Rules.{cut_clauses}
-use Rattle.rules.proofs.Matching.{within_uneven, length_cut_clauses, from_field, from_field_more, from_field_all}
+use Rattle.rules.proofs.Matching.{within_uneven, length_cut_clauses, from_field_more, from_field_all}
 use Rattle.rules.proofs.rule.all_hold.Goals as goal
 
 pub returns-then-values-ranges : goal.returns-then-values-ranges

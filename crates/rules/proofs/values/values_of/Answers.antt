@@ -1,5 +1,5 @@
 -- Each turn gathers the next field's value; after the last, all of them.
-use Rattle.std.proofs.Common.{refl, arith}
+use Rattle.std.proofs.Common.{arith}
 use Rattle.rules.proofs.Gathered.{gathered_more, gathered_none, gathered_all, within_length}
 use Rattle.rules.proofs.values.values_of.Goals as goal
 use Rattle.rules.proofs.values.values_of.Goals.{in-Some, in_default}

@@ -1,5 +1,5 @@
 -- The scan's table, lawful and under no edit, can be read.
-use Rattle.std.proofs.Common.{None, vec_items, sym, subst}
+use Rattle.std.proofs.Common.{None, sym, subst}
 use Rattle.tables.proofs.Cuts.{list_lawful}
 use Rattle.judges.specs.Views.{Readable}
 use Rattle.judges.proofs.scan.ScanJudge.judge.Goals as goal

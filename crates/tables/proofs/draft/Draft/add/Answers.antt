@@ -1,5 +1,5 @@
 -- A full draft and clauses out of range are declined with the draft as it was; an accepted rule is not changed by the cut.
-use Rattle.std.proofs.Common.{◌≡◌, ◌<◌, ◌≤◌, length, take, vec_items, sym, refl, ap, ◌∙◌, arith, rules}
+use Rattle.std.proofs.Common.{◌≤◌, length, take, vec_items, sym, refl, ap, ◌∙◌, rules}
 use Rattle.std.proofs.lemmas.Bool.{leb-true, leb-false}
 use Rattle.tables.specs.Adding.{clauses_decline}
 use Rattle.rules.specs.Rules.{above_default}

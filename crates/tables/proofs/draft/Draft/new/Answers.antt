@@ -1,5 +1,5 @@
 -- The widest default, cut to the kind's ranges, is those ranges.
-use Rattle.std.proofs.Common.{◌≡◌, List, [], ◌∷◌, ap, ◌∙◌}
+use Rattle.std.proofs.Common.{[], ◌∷◌, ap, ◌∙◌}
 use Rattle.rules.specs.Rules.{cut, default_rule}
 use Rattle.tables.proofs.Cuts.{default_cut}
 use Rattle.tables.proofs.draft.Draft.new.Goals as goal

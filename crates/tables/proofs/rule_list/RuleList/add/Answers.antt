@@ -1,5 +1,5 @@
 -- The list stays sound with one rule more above the default, and has room for it.
-use Rattle.std.proofs.Common.{◌≡◌, ◌+◌, ◌-◌, ◌<◌, ◌≤◌, cond, length, vec_items, vec_len, ap, ◌∙◌, arith}
+use Rattle.std.proofs.Common.{◌≡◌, ◌+◌, ◌-◌, cond, length, vec_items, vec_len, ap, ◌∙◌, arith}
 use Rattle.std.specs.List.{insert}
 use Rattle.rules.specs.Rules.{above_default}
 use Rattle.tables.proofs.Kept.{ghosts, sound_of, add_keeps}

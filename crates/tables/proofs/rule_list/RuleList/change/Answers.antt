@@ -1,5 +1,5 @@
 -- The list stays sound under a change of decision.
-use Rattle.std.proofs.Common.{◌≡◌, ◌-◌, ◌<◌, ◌≤◌, [], length, set, vec_items, vec_len, ap, arith}
+use Rattle.std.proofs.Common.{◌-◌, ◌<◌, [], length, set, vec_items, ap, arith}
 use Rattle.std.specs.Vec.{with_item}
 use Rattle.std.proofs.lemmas.List.{get_or_read}
 use Rattle.tables.specs.declared.edit.Edit.TheVariants.{Change}

@@ -1,5 +1,5 @@
 -- Where there is no such place, the number is that of the blank rule, 0.
-use Rattle.std.proofs.Common.{◌≡◌, ◌-◌, ◌≤◌, min, [], length, vec_items, sym, ap, ◌∙◌, arith}
+use Rattle.std.proofs.Common.{◌-◌, ◌≤◌, min, [], length, vec_items, sym, ap, ◌∙◌, arith}
 use Rattle.std.proofs.lemmas.List.{get_or_past}
 use Rattle.tables.proofs.rule_list.RuleList.decision_number.Goals as goal
 

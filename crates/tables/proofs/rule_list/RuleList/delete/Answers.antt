@@ -1,5 +1,5 @@
 -- The list stays sound without a rule that is not the default.
-use Rattle.std.proofs.Common.{◌≡◌, ◌<◌, ◌≤◌, length, vec_items, vec_len, sym, arith, rules}
+use Rattle.std.proofs.Common.{vec_items, arith}
 use Rattle.tables.proofs.Kept.{ghosts, sound_of, delete_keeps}
 use Rattle.tables.proofs.rule_list.RuleList.delete.Goals as goal
 

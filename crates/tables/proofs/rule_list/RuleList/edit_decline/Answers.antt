@@ -1,5 +1,5 @@
 -- The checks on the list are those on its rules as cut, whatever the ranges.
-use Rattle.std.proofs.Common.{vec_items, vec_len, sym, ap, ◌∙◌}
+use Rattle.std.proofs.Common.{vec_items, sym, ap, ◌∙◌}
 use Rattle.tables.specs.Edits.{edit_decline, change_decline, swap_decline, delete_decline}
 use Rattle.rules.specs.Rules.{cut}
 use Rattle.tables.proofs.Cuts.{length_cut, decision_at_cut}

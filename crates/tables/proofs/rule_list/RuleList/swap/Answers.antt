@@ -1,5 +1,5 @@
 -- The list stays sound under an exchange of two rules above the default.
-use Rattle.std.proofs.Common.{◌≡◌, ◌<◌, ◌≤◌, length, vec_items, vec_len, sym, arith, rules}
+use Rattle.std.proofs.Common.{vec_items, arith}
 use Rattle.tables.proofs.Kept.{ghosts, sound_of, swap_keeps}
 use Rattle.tables.proofs.rule_list.RuleList.swap.Goals as goal
 

@@ -1,5 +1,5 @@
 -- The decision at a place is declined 10 or can be made.
-use Rattle.std.proofs.Common.{◌≡◌, ◌-◌, min, vec_items, sym, ap, ◌∙◌}
+use Rattle.std.proofs.Common.{◌-◌, min, vec_items, sym, ap, ◌∙◌}
 use Rattle.rules.specs.Rules.{rule_at}
 use Rattle.tables.proofs.Telling.{told_nowhere, told_there}
 use Rattle.tables.proofs.table.Table.decision_at.Goals as goal
