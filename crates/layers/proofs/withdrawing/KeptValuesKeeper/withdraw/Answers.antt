@@ -1,13 +1,12 @@
 -- A value that is not kept yet, and for which there is room, leaves no value twice.
-use Rattle.std.proofs.Common.{◌≡◌, true, vec_items, sym, ap, ◌∙◌, arith, rules}
+use Rattle.std.proofs.Common.{vec_items, sym, ap, ◌∙◌}
 use Rattle.layers.specs.Keeping.{distinct}
 use Rattle.judges.specs.Notes.{holds_value}
 use Rattle.layers.proofs.Distinct.{distinct_more}
 use Rattle.layers.proofs.withdrawing.KeptValuesKeeper.withdraw.Goals as goal
 
-pub invariant_of-self : goal.invariant_of-self
-invariant_of-self c =
+pub invariant_of-self-clause-apart : goal.invariant_of-self-clause-apart
+invariant_of-self-clause-apart c =
     let kept = c.args.self.now in
     let absent = ap (λ l. holds_value l c.args.value) (sym c.as_slice.ensures.value) ∙ sym c.holds.ensures ∙ c.if-holds.false in
-    let apart : distinct (vec_items c.push_reserved.new.self) ≡ true = ap distinct c.push_reserved.ensures.items ∙ distinct_more (vec_items kept.values) c.args.value kept.apart absent in
-    (search rules, (search rules, (apart, tt)))
+    ap distinct c.push_reserved.ensures.items ∙ distinct_more (vec_items kept.values) c.args.value kept.apart absent
