@@ -6,7 +6,7 @@ use Rattle.rules.specs.declared.decline.Decline.{Decline}
 use Rattle.rules.specs.declared.decline.Decline.TheVariants.{NotWithdrawn}
 use Rattle.rules.specs.Declines.{unless}
 use Rattle.layers.specs.Keeping.{Acted, Frees, index_of, distinct, if_own}
-use Rattle.judges.specs.Notes.{Note, withdrawals, holds_value, without, with_kept, kept_or_none, kept_on, give_back_checks, given_back}
+use Rattle.judges.specs.Notes.{withdrawals, holds_value, without, kept_or_none, kept_on, give_back_checks, given_back}
 use Rattle.layers.proofs.Distinct.{without_index, without_gone}
 use Rattle.layers.proofs.KeptLists.{holds_index}
 

@@ -1,5 +1,5 @@
 -- A verdict from below, lowered by a layer's note, is the verdict of the layer. Assumes nothing.
-use Rattle.std.proofs.Common.{◌≡◌, ℕ, ◌<◌, not, List, None, Option, sym, refl, ap, ◌∙◌, subst, arith}
+use Rattle.std.proofs.Common.{◌≡◌, ℕ, ◌<◌, not, List, None, Option, ap, ◌∙◌, subst, arith}
 use Rattle.std.proofs.lemmas.Bool.{lt-ltb}
 use Rattle.rules.specs.declared.decline.Decline.TheVariants.{NotOfKind}
 use Rattle.rules.specs.Declines.{unless}

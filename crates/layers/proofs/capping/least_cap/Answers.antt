@@ -1,7 +1,6 @@
 -- Each turn lowers to one more cap; after the last, to the smallest.
-use Rattle.std.proofs.Common.{◌≡◌, sym, ap, ◌∙◌, arith}
-use Rattle.judges.specs.Notes.{cap_inside}
-use Rattle.layers.proofs.KeptLists.{Capped, capped_more, capped_end}
+use Rattle.std.proofs.Common.{sym, arith}
+use Rattle.layers.proofs.KeptLists.{capped_more, capped_end}
 use Rattle.layers.proofs.capping.least_cap.Goals as goal
 
 pub loop-window-preserved : goal.loop-window-preserved

@@ -1,5 +1,5 @@
 -- The loop stops at the first equal value, or past the last.
-use Rattle.std.proofs.Common.{◌≡◌, true, false, get_or, sym, ◌∙◌, arith, eq-eqb, ne_eqb}
+use Rattle.std.proofs.Common.{true, false, get_or, arith, eq-eqb, ne_eqb}
 use Rattle.layers.proofs.KeptLists.{index_step, index_end}
 use Rattle.layers.proofs.withdrawing.index_of.Goals as goal
 

@@ -1,5 +1,5 @@
 -- A kept value is removed at its index, and is then kept no more; one that is not kept is declined 18.
-use Rattle.std.proofs.Common.{◌≡◌, ◌<◌, ◌≤◌, length, vec_items, sym, ap, ◌∙◌, arith, eq-eqb}
+use Rattle.std.proofs.Common.{◌≡◌, ◌<◌, length, vec_items, sym, ap, ◌∙◌, arith, eq-eqb}
 use Rattle.std.specs.List.{remove}
 use Rattle.layers.specs.Keeping.{index_of, distinct}
 use Rattle.layers.proofs.Distinct.{without_index, distinct_without}
