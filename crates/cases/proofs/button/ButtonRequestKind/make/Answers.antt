@@ -1,5 +1,5 @@
 -- A button made of one value bears that value.
-use Rattle.std.proofs.Common.{sym, refl, rules}
+use Rattle.std.proofs.Common.{refl, rules}
 use Rattle.rules.proofs.Making.{made_of}
 use Rattle.cases.proofs.button.ButtonRequestKind.make.Goals as goal
 

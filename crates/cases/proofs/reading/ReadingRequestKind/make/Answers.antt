@@ -1,5 +1,5 @@
 -- A reading made of six values bears those values.
-use Rattle.std.proofs.Common.{sym, refl, rules}
+use Rattle.std.proofs.Common.{refl, rules}
 use Rattle.rules.proofs.Making.{made_of}
 use Rattle.cases.proofs.reading.ReadingRequestKind.make.Goals as goal
 
