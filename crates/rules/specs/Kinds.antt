@@ -1,6 +1,6 @@
 -- What the laws of the two sorts of kind say. Assumes nothing.
 use Rattle.std.specs.Prelude.{◌≡◌, ℕ, zero, suc, ◌^◌, ◌<◌, ◌≤◌, not, List, [], ◌∷◌, length, IfOk, Some, None, Option, Result, nat_lt}
-use Rattle.std.specs.List.{AllByRecursion as All}
+use Rattle.std.specs.List.{AllByRecursion}
 use Rattle.rules.specs.declared.decline.Decline.{Decline}
 use Rattle.rules.specs.declared.decline.Decline.TheVariants.{NotOfKind}
 use Rattle.rules.specs.declared.interval.Interval.{Interval}
@@ -11,7 +11,7 @@ abbrev pub LawfulRange : Interval → Type 0
 LawfulRange r = Forward r × (r.upper < 2 ^ 32)
 
 abbrev pub LawfulRanges : List Interval → Type 0
-LawfulRanges ranges = (1 ≤ length ranges) × (length ranges ≤ 6) × All LawfulRange ranges
+LawfulRanges ranges = (1 ≤ length ranges) × (length ranges ≤ 6) × AllByRecursion LawfulRange ranges
 
 -- what a list has for a field, fields being numbered from 1
 abbrev pub of_field : {A : Type 0} → List A → ℕ → Option A

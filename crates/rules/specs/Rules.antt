@@ -1,6 +1,6 @@
 -- Rules, when one matches, and how rules are cut to the ranges and decisions of their kinds. Assumes nothing.
 use Rattle.std.specs.Prelude.{◌≡◌, ℕ, ◌-◌, ◌<◌, ◌≤◌, min, Bool, List, [], ◌∷◌, map, length, replicate, slice_index_or}
-use Rattle.std.specs.List.{insert, AllByRecursion as All}
+use Rattle.std.specs.List.{insert, AllByRecursion}
 use Rattle.rules.specs.declared.interval.Interval.{Interval}
 use Rattle.rules.specs.declared.rule.Rule.{Rule}
 use Rattle.rules.specs.Intervals.{within, cut_interval, from_to, every, forward, Forward, Inside}
@@ -56,5 +56,5 @@ LawfulRule ranges count rule = LawfulClauses ranges rule.clauses × (rule.decisi
 pub record Lawful (ranges : List Interval) (count : ℕ) (rules : List Rule) : Type 0 where
   pub some : 1 ≤ length rules
   pub few : length rules ≤ 64
-  pub each : All (LawfulRule ranges count) rules
+  pub each : AllByRecursion (LawfulRule ranges count) rules
   pub default : (rule_at rules (length rules)).clauses ≡ ranges

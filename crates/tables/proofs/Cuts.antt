@@ -1,6 +1,6 @@
 -- Cut rules: they are lawful, and cutting goes before or after an edit alike. Assumes nothing.
 use Rattle.std.proofs.Common.{◌≡◌, ℕ, suc, ◌-◌, ◌<◌, ◌≤◌, min, true, eqb, List, [], ◌∷◌, ◌++◌, map, length, get_or, take, drop, set, vec_items, sym, refl, ap, ◌∙◌, ⊎_elim, arith}
-use Rattle.std.specs.List.{insert, swap, AllByRecursion as All}
+use Rattle.std.specs.List.{insert, swap, AllByRecursion}
 use Rattle.std.proofs.ByRecursion.{All-map, All-weaker}
 use Rattle.std.proofs.lemmas.List.{map-set, map-append, take-map, drop-map, get_or-map, length-map, get_or_past}
 use Rattle.std.proofs.lemmas.Bool.{and_parts, leb-true, eqb-true, cases_lt}
@@ -77,7 +77,7 @@ module _ (ranges : List Interval) (count : ℕ) where
       ∙ ap (λ n. insert (map f rules) (n - 1) (f rule)) (sym (length_cut rules))
 
 -- cut to any lawful ranges, wide clauses are the ranges themselves
-pub wide_cut : (ranges clauses : List Interval) → All LawfulRange ranges → every wide clauses ≡ true → cut_clauses ranges clauses ≡ ranges
+pub wide_cut : (ranges clauses : List Interval) → AllByRecursion LawfulRange ranges → every wide clauses ≡ true → cut_clauses ranges clauses ≡ ranges
 wide_cut [] clauses lawful h = refl
 wide_cut (r ∷ rs) [] lawful h = ap (λ l. r ∷ l) (wide_cut rs [] lawful.1 refl)
 wide_cut (r ∷ rs) (c ∷ cs) lawful h =
@@ -94,7 +94,7 @@ wide_cut (r ∷ rs) (c ∷ cs) lawful h =
 lawful_cut_clause : (range clause : Interval) → LawfulRange range → Forward clause → LawfulClause range (cut_interval range clause)
 lawful_cut_clause r c lawful run = let a = lawful.0 in (omega arith, (omega arith, omega arith), (omega arith, omega arith))
 
-lawful_cut_clauses : (ranges clauses : List Interval) → All LawfulRange ranges → every forward clauses ≡ true → LawfulClauses ranges (cut_clauses ranges clauses)
+lawful_cut_clauses : (ranges clauses : List Interval) → AllByRecursion LawfulRange ranges → every forward clauses ≡ true → LawfulClauses ranges (cut_clauses ranges clauses)
 lawful_cut_clauses [] clauses lawful run = tt
 lawful_cut_clauses (r ∷ rs) [] lawful run = let a = lawful.0.0 in ((omega arith, (omega arith, omega arith), (omega arith, omega arith)), lawful_cut_clauses rs [] lawful.1 refl)
 lawful_cut_clauses (r ∷ rs) (c ∷ cs) lawful run =

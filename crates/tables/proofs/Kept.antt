@@ -1,7 +1,7 @@
 -- What each change of a list of rules keeps: every clause runs forward, and the last rule is wide. Assumes nothing.
 use Rattle.std.proofs.Common.{◌≡◌, ℕ, suc, ◌+◌, ◌-◌, ◌<◌, ◌≤◌, Bool, true, List, [], ◌∷◌, length, get_or, take, drop, set, vec_items, vec_len, Vec, sym, refl, ap, ◌∙◌, subst, ⊎_elim, arith}
 use Rattle.std.specs.declared.alloc.Global.{Global}
-use Rattle.std.specs.List.{insert, remove, swap, AllByRecursion as All}
+use Rattle.std.specs.List.{insert, remove, swap, AllByRecursion}
 use Rattle.std.proofs.ByRecursion.{All-set, All-take, All-drop, All-append, All-get_or}
 use Rattle.std.proofs.lemmas.List.Edits.{length-insert, get_or-insert_above, length-remove, get_or-remove_above, length-swap, swap_is, swapped_from_swap}
 use Rattle.std.proofs.lemmas.List.{get_or-set_same, get_or-set_other, length-set}
@@ -13,11 +13,11 @@ use Rattle.rules.specs.Intervals.{every, wide}
 use Rattle.rules.specs.Rules.{rule_at, forward_rule, above_default}
 
 module _ {A : Type 0} (f : A → Bool) where
-  pub every_all : (xs : List A) → every f xs ≡ true → All (λ x. f x ≡ true) xs
+  pub every_all : (xs : List A) → every f xs ≡ true → AllByRecursion (λ x. f x ≡ true) xs
   every_all [] h = tt
   every_all (x ∷ xs) h = let both = and_parts (f x) (every f xs) h in (both.0, every_all xs both.1)
 
-  pub all_every : (xs : List A) → All (λ x. f x ≡ true) xs → every f xs ≡ true
+  pub all_every : (xs : List A) → AllByRecursion (λ x. f x ≡ true) xs → every f xs ≡ true
   all_every [] h = refl
   all_every (x ∷ xs) h = and_from (f x) (every f xs) h.0 (all_every xs h.1)
 
@@ -112,7 +112,7 @@ swap_keeps xs first second low order high sound =
     let all = every_all forward_rule xs sound.forward in
     let parts = All-set passes (set xs i (get_or xs j blank)) j (get_or xs i blank) (All-get_or passes xs i blank iin all) (All-set passes xs i (get_or xs j blank) (All-get_or passes xs j blank jin all) all) in
     record {
-      forward = all_every forward_rule (swap xs i j) (subst (All passes) (swap_is xs i j blank iin jin) parts);
+      forward = all_every forward_rule (swap xs i j) (subst (AllByRecursion passes) (swap_is xs i j blank iin jin) parts);
       wide_end = same_end xs (swap xs i j) (swap_end xs first second low order high) sound.wide_end;
     }
 
