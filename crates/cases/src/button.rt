@@ -1,6 +1,6 @@
 // A kind of request of one field, a button numbered 7 to 9, and a kind of one decision.
 ghost use Rattle.std.specs.Prelude.{◌≡◌, true, [], ◌∷◌, slice_index};
-ghost use Rattle.std.proofs.Common.{ap, rules, arith};
+ghost use Rattle.std.proofs.Common.{ap, rules};
 ghost use Rattle.std.proofs.Math.Bool.{Bool-set};
 ghost use Rattle.rules.specs.Intervals.{within, from_to};
 ghost use mathlib.Core.HLevel.{is_prop→PathP};
@@ -22,10 +22,11 @@ impl RequestKind for Button {
 
     const FIELDS: usize = 1;
 
-    ghost ranged = { first_of (Prim.search rules, Prim.grind (arith, Self.row.coded.inj)) };
+    ghost ranged = { Prim.search rules };
 
-    ghost valued = { first_of (Prim.search rules, Prim.grind (arith, Self.row.coded.inj)) };
+    ghost valued = { Prim.search rules };
 
+    // A button is no more than its value.
     ghost determined = { λ p q e.
         let number : p.number ≡ q.number = ap (λ vs. slice_index vs 0) e in
         λ i. record { number = number i; ranged = is_prop→PathP (λ j. within (from_to 7 9 ∷ []) (number j ∷ []) ≡ true) (λ j. Bool-set _ _) p.ranged q.ranged i } };

@@ -3,7 +3,7 @@ ghost use Rattle.std.specs.Prelude.{◌≡◌, true, nat_lt, refl};
 ghost use Rattle.std.proofs.Math.Bool.{Bool-set};
 ghost use mathlib.Core.HLevel.{is_prop→PathP};
 ghost use Rattle.std.proofs.lemmas.Bool.{lt-ltb};
-ghost use Rattle.std.proofs.Common.{rules, arith};
+ghost use Rattle.std.proofs.Common.{rules};
 
 use rules::decline::Decline;
 use rules::kind::DecisionKind;
@@ -21,10 +21,11 @@ impl DecisionKind for Grade {
 
     const COUNT: usize = 256;
 
-    ghost counted = { first_of (Prim.search rules, Prim.grind (arith, Self.row.coded.inj)) };
+    ghost counted = { Prim.search rules };
 
-    ghost numbered = { first_of (Prim.search rules, Prim.grind (arith, Self.row.coded.inj)) };
+    ghost numbered = { Prim.search rules };
 
+    // A grade is no more than its number.
     ghost determined = { λ d e h i. record { value = h i; ranged = is_prop→PathP (λ j. nat_lt (h j) 256 ≡ true) (λ j. Bool-set _ _) d.ranged e.ranged i } };
 
     ghost reached = { λ n h. (record { value = n; ranged = lt-ltb n 256 h }, refl) };

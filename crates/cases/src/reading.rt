@@ -1,7 +1,7 @@
 // A kind of request of six fields, the most that there may be: readings of six sensors.
 // One range is all numbers of 32 bits, one is a single value.
 ghost use Rattle.std.specs.Prelude.{◌≡◌, ℕ, true, List, [], ◌∷◌, slice_index_or};
-ghost use Rattle.std.proofs.Common.{ap, rules, arith};
+ghost use Rattle.std.proofs.Common.{ap, rules};
 ghost use Rattle.std.proofs.Math.Bool.{Bool-set};
 ghost use Rattle.rules.specs.Intervals.{within, from_to};
 ghost use Rattle.cases.specs.Readings.{reading_ranges};
@@ -29,10 +29,11 @@ impl RequestKind for Reading {
 
     const FIELDS: usize = 6;
 
-    ghost ranged = { first_of (Prim.search rules, Prim.grind (arith, Self.row.coded.inj)) };
+    ghost ranged = { Prim.search rules };
 
-    ghost valued = { first_of (Prim.search rules, Prim.grind (arith, Self.row.coded.inj)) };
+    ghost valued = { Prim.search rules };
 
+    // A reading is no more than its values.
     ghost determined = { λ p q h.
         let at : ℕ → List ℕ → ℕ = λ k vs. slice_index_or vs k 0 in
         let a : p.a ≡ q.a = ap (at 0) h in

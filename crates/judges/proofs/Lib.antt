@@ -4,4 +4,3 @@ pub mod Judging
 pub mod Lowering
 pub mod Readings
 pub mod Seeing
-pub mod Withdrawn

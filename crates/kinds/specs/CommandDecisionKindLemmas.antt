@@ -1,3 +1,4 @@
+-- Numbers and decisions on commands determine each other: what the laws of `DecisionKind` ask. Assumes nothing.
 use Rattle.std.specs.Prelude.{◌≡◌, ℕ, zero, suc, ◌<◌, true, refl}
 use Rattle.std.proofs.Common.{ap, arith}
 use Rattle.std.proofs.Math.Bool.{Bool-set}

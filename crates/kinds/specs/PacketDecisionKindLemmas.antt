@@ -1,3 +1,4 @@
+-- Numbers and decisions on packets determine each other: what the laws of `DecisionKind` ask. Assumes nothing.
 use Rattle.std.specs.Prelude.{◌≡◌, ℕ, zero, suc, ◌<◌, refl}
 use Rattle.std.proofs.Common.{arith}
 use Rattle.kinds.specs.declared.packet_decision.PacketDecision.{PacketDecision}

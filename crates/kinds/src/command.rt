@@ -2,7 +2,7 @@
 // Its fields are code, level (the access levels 1 to 4 of EN 54-2), command, loop (0 is the whole panel)
 // and minute of the week (0 is Monday 00:00).
 ghost use Rattle.std.specs.Prelude.{◌≡◌, ℕ, true, List, [], ◌∷◌, slice_index_or};
-ghost use Rattle.std.proofs.Common.{ap, rules, arith};
+ghost use Rattle.std.proofs.Common.{ap, rules};
 ghost use Rattle.std.proofs.Math.Bool.{Bool-set};
 ghost use Rattle.rules.specs.Intervals.{within};
 ghost use Rattle.rules.specs.Kinds.{MadeFrom};
@@ -91,10 +91,11 @@ impl RequestKind for Command {
 
     const FIELDS: usize = 5;
 
-    ghost ranged = { first_of (Prim.search rules, Prim.grind (arith, Self.row.coded.inj)) };
+    ghost ranged = { Prim.search rules };
 
-    ghost valued = { first_of (Prim.search rules, Prim.grind (arith, Self.row.coded.inj)) };
+    ghost valued = { Prim.search rules };
 
+    // A command is no more than its values.
     ghost determined = { λ p q e.
         let at : ℕ → List ℕ → ℕ = λ k vs. slice_index_or vs k 0 in
         let code : p.code ≡ q.code = ap (at 0) e in

@@ -1,7 +1,7 @@
 // The packet kind of request: what arrives at the gateway.
 // Its fields are source and destination address, source and destination port, and protocol.
 ghost use Rattle.std.specs.Prelude.{◌≡◌, ℕ, true, List, [], ◌∷◌, slice_index_or};
-ghost use Rattle.std.proofs.Common.{ap, rules, arith};
+ghost use Rattle.std.proofs.Common.{ap, rules};
 ghost use Rattle.std.proofs.Math.Bool.{Bool-set};
 ghost use Rattle.rules.specs.Intervals.{within};
 ghost use Rattle.rules.specs.Kinds.{MadeFrom};
@@ -83,10 +83,11 @@ impl RequestKind for Packet {
 
     const FIELDS: usize = 5;
 
-    ghost ranged = { first_of (Prim.search rules, Prim.grind (arith, Self.row.coded.inj)) };
+    ghost ranged = { Prim.search rules };
 
-    ghost valued = { first_of (Prim.search rules, Prim.grind (arith, Self.row.coded.inj)) };
+    ghost valued = { Prim.search rules };
 
+    // A packet is no more than its values.
     ghost determined = { λ p q e.
         let at : ℕ → List ℕ → ℕ = λ k vs. slice_index_or vs k 0 in
         let source : p.source ≡ q.source = ap (at 0) e in

@@ -1,3 +1,4 @@
+pub mod Barring
 pub mod Distinct
 pub mod GivingBack
 pub mod KeptLists

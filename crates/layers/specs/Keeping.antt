@@ -2,7 +2,8 @@
 use Rattle.std.specs.Prelude.{◌≡◌, ℕ, suc, Bool, true, false, cond, not, ◌&&◌, List, [], ◌∷◌, Some, None, Option, Result, ◌==◌}
 use Rattle.rules.specs.declared.decline.Decline.{Decline}
 use Rattle.rules.specs.Declines.{declined, left_by}
-use Rattle.judges.specs.Notes.{Note, holds_value, kept_on, keeps}
+use Rattle.rules.specs.Kinds.{of_field}
+use Rattle.judges.specs.Notes.{Note, holds_value, bears_withdrawn, kept_on, keeps}
 
 -- the index of the first value that equals this one, or the length where there is none
 abbrev pub index_of : List ℕ → ℕ → ℕ
@@ -32,6 +33,11 @@ pub record Acted (checks : Option (List ℕ) → ℕ → Option Decline) (change
     (note : Note) (field value : ℕ) (answer : Option (Option Decline)) (after : Note) : Type 0 where
   pub answers : answer ≡ if_own (kept_on (note ∷ []) field) (checks (kept_on (note ∷ []) field) value)
   pub leaves : after ∷ [] ≡ left_by (flat answer) (change (note ∷ []) field value) (note ∷ [])
+
+-- once a withdrawal is accepted, a request that bears the value in that field bears a withdrawn one, whatever notes stand below
+abbrev pub Bars : ℕ → ℕ → Option (Option Decline) → Note → Type 0
+Bars field value answer after =
+    answer ≡ Some None → (below : List Note) (values : List ℕ) → of_field values field ≡ Some value → bears_withdrawn (after ∷ below) values ≡ true
 
 -- once a value is accepted back, the note keeps it no more, whatever notes stand below
 abbrev pub Frees : ℕ → ℕ → Option (Option Decline) → Note → Type 0

@@ -1,7 +1,7 @@
 // What a layer keeps: its note, what that makes of a decision, and its own part in withdrawing and giving back.
 // A layer over a judge is written once for everything that is a keeper.
 ghost use Rattle.std.specs.Prelude.{◌≡◌, Some};
-ghost use Rattle.layers.specs.Keeping.{Acted, Frees, own_answer};
+ghost use Rattle.layers.specs.Keeping.{Acted, Bars, Frees, own_answer};
 ghost use Rattle.judges.specs.Notes.{Note, note_field, noted_value, withdraw_checks, withdrawn, give_back_checks, given_back};
 
 use rules::decline::Decline;
@@ -19,7 +19,8 @@ pub trait Keeper: Drop + Sized {
 
     // Withdraws the value if the note keeps withdrawn values of this field; None where it does not.
     fn withdraw(&mut self, field: usize, value: u32) -> Option<Result<(), Decline>>
-        ensures { Acted withdraw_checks withdrawn (note self.old) field value (own_answer result) (note self.new) };
+        ensures acted { Acted withdraw_checks withdrawn (note self.old) field value (own_answer result) (note self.new) }
+        ensures bars { Bars field value (own_answer result) (note self.new) };
 
     // Gives the value back if the note keeps withdrawn values of this field; None where it does not.
     fn give_back(&mut self, field: usize, value: u32) -> Option<Result<(), Decline>>
