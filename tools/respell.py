@@ -5,7 +5,9 @@ It was run once, at the top of the repository, directly after the kit's port.py,
 with a dash that a file of specs/ or a lemma file of proofs/ declares becomes one without (`first-match` is `first_match`,
 `First-match` is `FirstMatch`), in definitions, clauses, proofs and must-fail edits, and between backticks in README.md and
 docs/. Names that Rattle makes of a function's steps and goals, and the names of std, keep their dashes. It stops where two
-names would become one. The files read by it declare no name of the code, so src/ changes in clauses alone.
+names that these files declare or bind would become one; it doesn't look whether src/ or std has the name. A name of std
+with a dash would be turned where such a file begins a line with it and a bracket; none was. These files declare no name of
+the code, so src/ changes in clauses alone.
 """
 
 import glob
