@@ -2,7 +2,9 @@
 // The numbers are listed once, in specs/Declines.antt, and the contracts of every crate use that list.
 ghost use Rattle.std.specs.Prelude.{◌≡◌};
 ghost use Rattle.rules.specs.Declines.{number_of};
+ghost use Rattle.rules.specs.declared.decline.Decline.TheVariants.{NoMemory};
 
+use std::alloc::AllocError;
 use std::error::Error;
 use std::fmt;
 
@@ -94,3 +96,12 @@ impl fmt::Display for Decline {
 }
 
 impl Error for Decline {}
+
+// Only setting up claims memory, and where there is not enough it is declined 99.
+impl From<AllocError> for Decline {
+    ghost from_gives = { λ _ r. r ≡ NoMemory };
+
+    fn from(_e: AllocError) -> Decline {
+        Decline::NoMemory
+    }
+}

@@ -1,6 +1,7 @@
 // An interval of numbers, both ends included: a field's range, or what a rule asks of a field.
 ghost use Rattle.std.specs.Prelude.{◌≡◌};
 ghost use Rattle.rules.specs.Clauses.{clause_decline};
+ghost use Rattle.rules.specs.Declines.{declined};
 ghost use Rattle.rules.specs.Intervals.{inside, cut_interval, from_to};
 
 use crate::decline::Decline;
@@ -35,20 +36,20 @@ impl Interval {
         Interval::new(lower, upper)
     }
 
-    // How the interval is declined as a clause or a window on a field of this range:
-    // 5 where an end lies outside the range, the lower end first, then 6 where the lower end lies above the upper.
-    pub fn decline_in(&self, range: &Interval) -> Option<Decline>
-        ensures { result ≡ clause_decline range.now self.now }
+    // Declined as a clause or a window on a field of this range: 5 where an end lies outside the range, the lower end first,
+    // then 6 where the lower end lies above the upper.
+    pub fn check_in(&self, range: &Interval) -> Result<(), Decline>
+        ensures { declined result ≡ clause_decline range.now self.now }
     {
         if !range.holds(self.lower) {
-            return Some(Decline::OutsideRange);
+            return Err(Decline::OutsideRange);
         }
         if !range.holds(self.upper) {
-            return Some(Decline::OutsideRange);
+            return Err(Decline::OutsideRange);
         }
         if self.lower > self.upper {
-            return Some(Decline::LowerAboveUpper);
+            return Err(Decline::LowerAboveUpper);
         }
-        None
+        Ok(())
     }
 }
