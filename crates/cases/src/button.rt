@@ -1,9 +1,8 @@
 // A kind of request of one field, a button numbered 7 to 9, and a kind of one decision.
 ghost use Rattle.std.specs.Prelude.{◌≡◌, true, [], ◌∷◌, slice_index};
-ghost use Rattle.std.proofs.Common.{ap, rules};
-ghost use Rattle.std.proofs.Math.Bool.{Bool-set};
+ghost use Rattle.std.proofs.Common.{rules};
 ghost use Rattle.rules.specs.Intervals.{within, from_to};
-ghost use mathlib.Core.HLevel.{is_prop→PathP};
+ghost use Rattle.rules.proofs.Making.{same_test};
 
 use rules::decline::Decline;
 use rules::interval::Interval;
@@ -22,24 +21,22 @@ impl RequestKind for Button {
 
     const FIELDS: usize = 1;
 
+    ghost FIELDS = { 1 };
+
+    ghost counted = { Prim.search rules };
+
     ghost ranged = { Prim.search rules };
 
     ghost valued = { Prim.search rules };
 
     // A button is no more than its value.
-    ghost determined = { λ p q e.
-        let number : p.number ≡ q.number = ap (λ vs. slice_index vs 0) e in
-        λ i. record { number = number i; ranged = is_prop→PathP (λ j. within (from_to 7 9 ∷ []) (number j ∷ []) ≡ true) (λ j. Bool-set _ _) p.ranged q.ranged i } };
+    ghost determined = { λ p q e i. record {
+      number = slice_index (e i) 0;
+      ranged = same_test (λ j. within (from_to 7 9 ∷ []) (slice_index (e j) 0 ∷ [])) p.ranged q.ranged i;
+    } };
 
-    fn field_count() -> usize {
-        <Button as RequestKind>::FIELDS
-    }
-
-    fn range(field: usize) -> Option<Interval> {
-        match field {
-            1 => Some(Interval::new(7, 9)),
-            _ => None,
-        }
+    fn ranges() -> &'static [Interval] {
+        &[Interval { lower: 7, upper: 9 }]
     }
 
     fn value(&self, field: usize) -> Option<u32> {
@@ -74,6 +71,10 @@ impl DecisionKind for Never {
 
     const COUNT: usize = 1;
 
+    ghost COUNT = { 1 };
+
+    ghost told = { Prim.search rules };
+
     ghost counted = { Prim.search rules };
 
     ghost numbered = { Prim.search rules };
@@ -81,10 +82,6 @@ impl DecisionKind for Never {
     ghost determined = { Prim.search rules };
 
     ghost reached = { Prim.search rules };
-
-    fn decision_count() -> usize {
-        <Never as DecisionKind>::COUNT
-    }
 
     fn number(&self) -> u8 {
         0

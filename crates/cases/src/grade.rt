@@ -1,7 +1,6 @@
 // A kind of 256 decisions, the most that there may be: each is its number.
 ghost use Rattle.std.specs.Prelude.{◌≡◌, true, nat_lt, refl};
-ghost use Rattle.std.proofs.Math.Bool.{Bool-set};
-ghost use mathlib.Core.HLevel.{is_prop→PathP};
+ghost use Rattle.rules.proofs.Making.{same_test};
 ghost use Rattle.std.proofs.lemmas.Bool.{lt-ltb};
 ghost use Rattle.std.proofs.Common.{rules};
 
@@ -21,18 +20,18 @@ impl DecisionKind for Grade {
 
     const COUNT: usize = 256;
 
+    ghost COUNT = { 256 };
+
+    ghost told = { Prim.search rules };
+
     ghost counted = { Prim.search rules };
 
     ghost numbered = { Prim.search rules };
 
     // A grade is no more than its number.
-    ghost determined = { λ d e h i. record { value = h i; ranged = is_prop→PathP (λ j. nat_lt (h j) 256 ≡ true) (λ j. Bool-set _ _) d.ranged e.ranged i } };
+    ghost determined = { λ d e h i. record { value = h i; ranged = same_test (λ j. nat_lt (h j) 256) d.ranged e.ranged i } };
 
     ghost reached = { λ n h. (record { value = n; ranged = lt-ltb n 256 h }, refl) };
-
-    fn decision_count() -> usize {
-        <Grade as DecisionKind>::COUNT
-    }
 
     fn number(&self) -> u8 {
         self.value

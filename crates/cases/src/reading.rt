@@ -1,11 +1,10 @@
 // A kind of request of six fields, the most that there may be: readings of six sensors.
 // One range is all numbers of 32 bits, one is a single value.
 ghost use Rattle.std.specs.Prelude.{◌≡◌, ℕ, true, List, [], ◌∷◌, slice_index_or};
-ghost use Rattle.std.proofs.Common.{ap, rules};
-ghost use Rattle.std.proofs.Math.Bool.{Bool-set};
+ghost use Rattle.std.proofs.Common.{rules};
 ghost use Rattle.rules.specs.Intervals.{within, from_to};
 ghost use Rattle.cases.specs.Readings.{reading_ranges};
-ghost use mathlib.Core.HLevel.{is_prop→PathP};
+ghost use Rattle.rules.proofs.Making.{same_test};
 
 use rules::decline::Decline;
 use rules::interval::Interval;
@@ -29,6 +28,10 @@ impl RequestKind for Reading {
 
     const FIELDS: usize = 6;
 
+    ghost FIELDS = { 6 };
+
+    ghost counted = { Prim.search rules };
+
     ghost ranged = { Prim.search rules };
 
     ghost valued = { Prim.search rules };
@@ -36,36 +39,37 @@ impl RequestKind for Reading {
     // A reading is no more than its values.
     ghost determined = { λ p q h.
         let at : ℕ → List ℕ → ℕ = λ k vs. slice_index_or vs k 0 in
-        let a : p.a ≡ q.a = ap (at 0) h in
-        let b : p.b ≡ q.b = ap (at 1) h in
-        let c : p.c ≡ q.c = ap (at 2) h in
-        let d : p.d ≡ q.d = ap (at 3) h in
-        let e : p.e ≡ q.e = ap (at 4) h in
-        let f : p.f ≡ q.f = ap (at 5) h in
         λ i. record {
-          a = a i;
-          b = b i;
-          c = c i;
-          d = d i;
-          e = e i;
-          f = f i;
-          ranged = is_prop→PathP (λ j. within reading_ranges (a j ∷ b j ∷ c j ∷ d j ∷ e j ∷ f j ∷ []) ≡ true) (λ j. Bool-set _ _) p.ranged q.ranged i;
+          a = at 0 (h i);
+          b = at 1 (h i);
+          c = at 2 (h i);
+          d = at 3 (h i);
+          e = at 4 (h i);
+          f = at 5 (h i);
+          ranged = same_test (λ j. within reading_ranges (at 0 (h j) ∷ at 1 (h j) ∷ at 2 (h j) ∷ at 3 (h j) ∷ at 4 (h j) ∷ at 5 (h j) ∷ [])) p.ranged q.ranged i;
         } };
 
-    fn field_count() -> usize {
-        <Reading as RequestKind>::FIELDS
-    }
-
-    fn range(field: usize) -> Option<Interval> {
-        match field {
-            1 => Some(Interval::new(0, 4294967295)),
-            2 => Some(Interval::new(5, 5)),
-            3 => Some(Interval::new(0, 1)),
-            4 => Some(Interval::new(10, 20)),
-            5 => Some(Interval::new(4294967294, 4294967295)),
-            6 => Some(Interval::new(1, 1000)),
-            _ => None,
-        }
+    fn ranges() -> &'static [Interval] {
+        &[
+            Interval {
+                lower: 0,
+                upper: 4294967295,
+            },
+            Interval { lower: 5, upper: 5 },
+            Interval { lower: 0, upper: 1 },
+            Interval {
+                lower: 10,
+                upper: 20,
+            },
+            Interval {
+                lower: 4294967294,
+                upper: 4294967295,
+            },
+            Interval {
+                lower: 1,
+                upper: 1000,
+            },
+        ]
     }
 
     fn value(&self, field: usize) -> Option<u32> {

@@ -1,21 +1,17 @@
 -- Numbers and decisions on commands determine each other: what the laws of `DecisionKind` ask. Assumes nothing.
-use Rattle.std.specs.Prelude.{◌≡◌, ℕ, zero, suc, ◌<◌, true, refl}
+use Rattle.std.specs.Prelude.{◌≡◌, ℕ, zero, suc, ◌<◌, refl}
 use Rattle.std.proofs.Common.{ap, arith}
-use Rattle.std.proofs.Math.Bool.{Bool-set}
-use mathlib.Core.HLevel.{is_prop→PathP}
 use Rattle.kinds.specs.declared.minutes.Minutes.{Minutes}
 use Rattle.kinds.specs.declared.command_decision.CommandDecision.{CommandDecision}
 use Rattle.kinds.specs.declared.command_decision.CommandDecision.TheVariants.{Refuse, Hold, Permit}
 use Rattle.rules.specs.Intervals.{inside, from_to}
 use Rattle.kinds.specs.Commands.{command_number}
+use Rattle.rules.proofs.Making.{same_test}
 use Rattle.rules.proofs.Insides.{inside_true, inside_from}
 
 pub minutes_same : (m n : Minutes) → m.value ≡ n.value → m ≡ n
 minutes_same m n e =
-    λ i. record {
-      value = e i;
-      ranged = is_prop→PathP (λ j. inside (from_to 1 240) (e j) ≡ true) (λ j. Bool-set _ _) m.ranged n.ranged i;
-    }
+    λ i. record { value = e i; ranged = same_test (λ j. inside (from_to 1 240) (e j)) m.ranged n.ranged i }
 
 pub same : (d e : CommandDecision) → command_number d ≡ command_number e → d ≡ e
 same Refuse Refuse h = refl

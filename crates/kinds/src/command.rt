@@ -2,12 +2,11 @@
 // Its fields are code, level (the access levels 1 to 4 of EN 54-2), command, loop (0 is the whole panel)
 // and minute of the week (0 is Monday 00:00).
 ghost use Rattle.std.specs.Prelude.{◌≡◌, ℕ, true, List, [], ◌∷◌, slice_index_or};
-ghost use Rattle.std.proofs.Common.{ap, rules};
-ghost use Rattle.std.proofs.Math.Bool.{Bool-set};
+ghost use Rattle.std.proofs.Common.{rules};
 ghost use Rattle.rules.specs.Intervals.{within};
 ghost use Rattle.rules.specs.Kinds.{MadeFrom};
+ghost use Rattle.rules.proofs.Making.{same_test};
 ghost use Rattle.kinds.specs.Commands.{command_ranges};
-ghost use mathlib.Core.HLevel.{is_prop→PathP};
 
 use rules::decline::Decline;
 use rules::interval::Interval;
@@ -91,6 +90,10 @@ impl RequestKind for Command {
 
     const FIELDS: usize = 5;
 
+    ghost FIELDS = { 5 };
+
+    ghost counted = { Prim.search rules };
+
     ghost ranged = { Prim.search rules };
 
     ghost valued = { Prim.search rules };
@@ -98,33 +101,35 @@ impl RequestKind for Command {
     // A command is no more than its values.
     ghost determined = { λ p q e.
         let at : ℕ → List ℕ → ℕ = λ k vs. slice_index_or vs k 0 in
-        let code : p.code ≡ q.code = ap (at 0) e in
-        let level : p.level ≡ q.level = ap (at 1) e in
-        let command : p.command ≡ q.command = ap (at 2) e in
-        let on : p.loop_number ≡ q.loop_number = ap (at 3) e in
-        let minute : p.minute ≡ q.minute = ap (at 4) e in
         λ i. record {
-          code = code i;
-          level = level i;
-          command = command i;
-          loop_number = on i;
-          minute = minute i;
-          ranged = is_prop→PathP (λ j. within command_ranges (code j ∷ level j ∷ command j ∷ on j ∷ minute j ∷ []) ≡ true) (λ j. Bool-set _ _) p.ranged q.ranged i;
+          code = at 0 (e i);
+          level = at 1 (e i);
+          command = at 2 (e i);
+          loop_number = at 3 (e i);
+          minute = at 4 (e i);
+          ranged = same_test (λ j. within command_ranges (at 0 (e j) ∷ at 1 (e j) ∷ at 2 (e j) ∷ at 3 (e j) ∷ at 4 (e j) ∷ [])) p.ranged q.ranged i;
         } };
 
-    fn field_count() -> usize {
-        <Command as RequestKind>::FIELDS
-    }
-
-    fn range(field: usize) -> Option<Interval> {
-        match field {
-            1 => Some(Interval::new(0, 9999)),
-            2 => Some(Interval::new(1, 4)),
-            3 => Some(Interval::new(0, 63)),
-            4 => Some(Interval::new(0, 16)),
-            5 => Some(Interval::new(0, 10079)),
-            _ => None,
-        }
+    fn ranges() -> &'static [Interval] {
+        &[
+            Interval {
+                lower: 0,
+                upper: 9999,
+            },
+            Interval { lower: 1, upper: 4 },
+            Interval {
+                lower: 0,
+                upper: 63,
+            },
+            Interval {
+                lower: 0,
+                upper: 16,
+            },
+            Interval {
+                lower: 0,
+                upper: 10079,
+            },
+        ]
     }
 
     fn value(&self, field: usize) -> Option<u32> {

@@ -23,6 +23,10 @@ impl DecisionKind for CommandDecision {
 
     const COUNT: usize = 242;
 
+    ghost COUNT = { 242 };
+
+    ghost told = { Prim.search rules };
+
     ghost counted = { Prim.search rules };
 
     ghost numbered = { Prim.search rules };
@@ -30,10 +34,6 @@ impl DecisionKind for CommandDecision {
     ghost determined = { λ d e h. same d e h };
 
     ghost reached = { λ n h. CommandDecisionKindLemmas.numbered n h };
-
-    fn decision_count() -> usize {
-        <CommandDecision as DecisionKind>::COUNT
-    }
 
     fn number(&self) -> u8 {
         match self {

@@ -1,12 +1,11 @@
 // The packet kind of request: what arrives at the gateway.
 // Its fields are source and destination address, source and destination port, and protocol.
 ghost use Rattle.std.specs.Prelude.{◌≡◌, ℕ, true, List, [], ◌∷◌, slice_index_or};
-ghost use Rattle.std.proofs.Common.{ap, rules};
-ghost use Rattle.std.proofs.Math.Bool.{Bool-set};
+ghost use Rattle.std.proofs.Common.{rules};
 ghost use Rattle.rules.specs.Intervals.{within};
 ghost use Rattle.rules.specs.Kinds.{MadeFrom};
+ghost use Rattle.rules.proofs.Making.{same_test};
 ghost use Rattle.kinds.specs.Packets.{packet_ranges};
-ghost use mathlib.Core.HLevel.{is_prop→PathP};
 
 use rules::decline::Decline;
 use rules::interval::Interval;
@@ -83,6 +82,10 @@ impl RequestKind for Packet {
 
     const FIELDS: usize = 5;
 
+    ghost FIELDS = { 5 };
+
+    ghost counted = { Prim.search rules };
+
     ghost ranged = { Prim.search rules };
 
     ghost valued = { Prim.search rules };
@@ -90,33 +93,38 @@ impl RequestKind for Packet {
     // A packet is no more than its values.
     ghost determined = { λ p q e.
         let at : ℕ → List ℕ → ℕ = λ k vs. slice_index_or vs k 0 in
-        let source : p.source ≡ q.source = ap (at 0) e in
-        let destination : p.destination ≡ q.destination = ap (at 1) e in
-        let sport : p.sport ≡ q.sport = ap (at 2) e in
-        let dport : p.dport ≡ q.dport = ap (at 3) e in
-        let protocol : p.protocol ≡ q.protocol = ap (at 4) e in
         λ i. record {
-          source = source i;
-          destination = destination i;
-          sport = sport i;
-          dport = dport i;
-          protocol = protocol i;
-          ranged = is_prop→PathP (λ j. within packet_ranges (source j ∷ destination j ∷ sport j ∷ dport j ∷ protocol j ∷ []) ≡ true) (λ j. Bool-set _ _) p.ranged q.ranged i;
+          source = at 0 (e i);
+          destination = at 1 (e i);
+          sport = at 2 (e i);
+          dport = at 3 (e i);
+          protocol = at 4 (e i);
+          ranged = same_test (λ j. within packet_ranges (at 0 (e j) ∷ at 1 (e j) ∷ at 2 (e j) ∷ at 3 (e j) ∷ at 4 (e j) ∷ [])) p.ranged q.ranged i;
         } };
 
-    fn field_count() -> usize {
-        <Packet as RequestKind>::FIELDS
-    }
-
-    fn range(field: usize) -> Option<Interval> {
-        match field {
-            1 => Some(Interval::new(0, 4294967295)),
-            2 => Some(Interval::new(0, 4294967295)),
-            3 => Some(Interval::new(0, 65535)),
-            4 => Some(Interval::new(0, 65535)),
-            5 => Some(Interval::new(0, 255)),
-            _ => None,
-        }
+    fn ranges() -> &'static [Interval] {
+        &[
+            Interval {
+                lower: 0,
+                upper: 4294967295,
+            },
+            Interval {
+                lower: 0,
+                upper: 4294967295,
+            },
+            Interval {
+                lower: 0,
+                upper: 65535,
+            },
+            Interval {
+                lower: 0,
+                upper: 65535,
+            },
+            Interval {
+                lower: 0,
+                upper: 255,
+            },
+        ]
     }
 
     fn value(&self, field: usize) -> Option<u32> {

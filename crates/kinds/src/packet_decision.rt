@@ -20,6 +20,10 @@ impl DecisionKind for PacketDecision {
 
     const COUNT: usize = 2;
 
+    ghost COUNT = { 2 };
+
+    ghost told = { Prim.search rules };
+
     ghost counted = { Prim.search rules };
 
     ghost numbered = { Prim.search rules };
@@ -27,10 +31,6 @@ impl DecisionKind for PacketDecision {
     ghost determined = { Prim.search rules };
 
     ghost reached = { λ n h. PacketDecisionKindLemmas.numbered n h };
-
-    fn decision_count() -> usize {
-        <PacketDecision as DecisionKind>::COUNT
-    }
 
     fn number(&self) -> u8 {
         match self {

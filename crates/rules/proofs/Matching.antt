@@ -1,9 +1,9 @@
 -- A match tested field by field. Assumes nothing.
-use Rattle.std.proofs.Common.{◌≡◌, ℕ, suc, ◌+◌, ◌<◌, ◌≤◌, Bool, true, false, ◌&&◌, List, [], ◌∷◌, length, get_or, drop, sym, refl, ap, ◌∙◌}
-use Rattle.std.proofs.lemmas.List.{drop_more, drop_all}
+use Rattle.std.proofs.Common.{◌≡◌, ℕ, suc, ◌≤◌, Bool, false, ◌&&◌, List, [], ◌∷◌, length, refl, ap, le_of_suc-le-suc, not-suc-le-zero, arith}
+use Rattle.std.specs.List.{list_all, zip}
 use Rattle.std.proofs.lemmas.Bool.{and_right}
 use Rattle.rules.specs.declared.interval.Interval.{Interval}
-use Rattle.rules.specs.Intervals.{inside, within, cut_interval, from_to}
+use Rattle.rules.specs.Intervals.{inside, within, cut_interval}
 use Rattle.rules.specs.Rules.{cut_clauses}
 
 pub length_cut_clauses : (ranges clauses : List Interval) → length (cut_clauses ranges clauses) ≡ length ranges
@@ -18,18 +18,16 @@ within_uneven [] (v ∷ vs) h = refl
 within_uneven (i ∷ is) [] h = refl
 within_uneven (i ∷ is) (v ∷ vs) h = and_right (inside i v) (within is vs) (within_uneven is vs (λ e. h (ap suc e)))
 
--- what is left to test from field k on, fields counted from 0
-abbrev pub from_field : List Interval → List Interval → List ℕ → ℕ → Bool
-from_field ranges clauses values k = within (cut_clauses (drop k ranges) (drop k clauses)) (drop k values)
+-- the value of a field lies in its clause, cut to its range
+abbrev pub field_holds : (Interval × Interval) × ℕ → Bool
+field_holds p = inside (cut_interval p.0.0 p.0.1) p.1
 
--- one field more, of which the test was b
-pub from_field_more : (ranges clauses : List Interval) (values : List ℕ) (k : ℕ) {i : Interval} {b t : Bool} → k < length ranges → k < length clauses → k < length values
-    → i ≡ cut_interval (get_or ranges k (from_to 0 0)) (get_or clauses k (from_to 0 0)) → b ≡ inside i (get_or values k 0) → b ≡ t
-    → from_field ranges clauses values k ≡ (t && from_field ranges clauses values (k + 1))
-from_field_more ranges clauses values k inRanges inClauses inValues cut tested is =
-    let now = ap (λ i. inside i (get_or values k 0)) (sym cut) ∙ sym tested ∙ is in
-    rw (drop_more ranges k (from_to 0 0) inRanges, drop_more clauses k (from_to 0 0) inClauses, drop_more values k 0 inValues, now)
-
-pub from_field_all : (ranges clauses : List Interval) (values : List ℕ) (k : ℕ) → length ranges ≤ k → length values ≤ k
-    → from_field ranges clauses values k ≡ true
-from_field_all ranges clauses values k a b = rw (drop_all k ranges a, drop_all k values b)
+-- with as many values as ranges, a match is the test of each field
+pub within_each : (ranges clauses : List Interval) (values : List ℕ) → length ranges ≤ length clauses → length ranges ≡ length values
+    → within (cut_clauses ranges clauses) values ≡ list_all field_holds (zip (zip ranges clauses) values)
+within_each [] clauses [] room even = refl
+within_each [] clauses (v ∷ vs) room even = absurd (omega arith)
+within_each (r ∷ rs) [] values room even = absurd (not-suc-le-zero room)
+within_each (r ∷ rs) (c ∷ cs) [] room even = absurd (omega arith)
+within_each (r ∷ rs) (c ∷ cs) (v ∷ vs) room even =
+    ap (λ b. inside (cut_interval r c) v && b) (within_each rs cs vs (le_of_suc-le-suc room) (omega arith))

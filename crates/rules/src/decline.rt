@@ -101,7 +101,7 @@ impl Error for Decline {}
 impl From<AllocError> for Decline {
     ghost from_gives = { λ _ r. r ≡ NoMemory };
 
-    fn from(_e: AllocError) -> Decline {
-        Decline::NoMemory
+    fn from(_e: AllocError) -> Self {
+        Self::NoMemory
     }
 }

@@ -15,15 +15,31 @@ pub trait RequestKind: Drop + Sized {
 
     ghost values: { Self → List ℕ };
 
+    // How many fields there are; the ghost member of that name is for contracts.
     const FIELDS: usize;
 
-    // FIELDS, in a form that a contract can name.
+    ghost FIELDS: { ℕ };
+
+    // The ranges of the fields, in order.
+    fn ranges() -> &'static [Interval]
+        ensures { result.now ≡ ranges };
+
+    // How many fields there are.
     fn field_count() -> usize
-        ensures { result ≡ length ranges };
+        ensures { result ≡ length ranges }
+    {
+        Self::ranges().len()
+    }
 
     // The range of a field, or None where there is no such field.
     fn range(field: usize) -> Option<Interval>
-        ensures { result ≡ of_field ranges field };
+        ensures { result ≡ of_field ranges field }
+    {
+        match field {
+            0 => None,
+            _ => Self::ranges().get(field - 1).copied(),
+        }
+    }
 
     // The value of a field, or None where there is no such field.
     fn value(&self, field: usize) -> Option<u32>
@@ -32,6 +48,9 @@ pub trait RequestKind: Drop + Sized {
     // The request that bears these values; declined 9 where no request does.
     fn make(given: &[u32]) -> Result<Self, Decline>
         ensures { MadeFrom ranges values given.now result };
+
+    // FIELDS counts the fields.
+    ghost counted: { FIELDS ≡ length ranges };
 
     // One to six fields, each range running forward and below 2^32.
     ghost ranged: { LawfulRanges ranges };
@@ -50,11 +69,17 @@ pub trait DecisionKind: Drop + Sized {
 
     ghost number: { Self → ℕ };
 
+    // How many decisions there are; the ghost member of that name is for contracts.
     const COUNT: usize;
 
-    // COUNT, in a form that a contract can name.
+    ghost COUNT: { ℕ };
+
+    // How many decisions there are.
     fn decision_count() -> usize
-        ensures { result ≡ count };
+        ensures { result ≡ count }
+    {
+        Self::COUNT
+    }
 
     fn number(&self) -> u8
         ensures { result ≡ number self.now };
@@ -62,6 +87,9 @@ pub trait DecisionKind: Drop + Sized {
     // The decision of this number; declined 9 where there is none.
     fn make(given: u32) -> Result<Self, Decline>
         ensures { DecisionMade count number given result };
+
+    // COUNT counts the decisions.
+    ghost told: { COUNT ≡ count };
 
     // One to 256 decisions.
     ghost counted: { (1 ≤ count) × (count ≤ 256) };

@@ -24,12 +24,9 @@ pub fn whole_ranges<Q: RequestKind>() -> Clauses
     ensures own { take (length Q.RequestKind.ranges) result ≡ Q.RequestKind.ranges }
     ensures past { drop (length Q.RequestKind.ranges) result ≡ replicate (6 - length Q.RequestKind.ranges) (from_to 0 0) }
 {
+    let own = Q::ranges();
     let mut ranges = [Interval { lower: 0, upper: 0 }; 6];
-    for k in 0..Q::field_count() {
-        if let Some(range) = Q::range(k + 1) {
-            ranges[k] = range;
-        }
-    }
+    ranges[..own.len()].copy_from_slice(own);
     ranges
 }
 

@@ -22,15 +22,12 @@ fn all_hold(ranges: &[Interval], clauses: &[Interval], values: &[u32]) -> bool
     requires { length ranges.now ≤ length clauses.now }
     ensures { result ≡ within (cut_clauses ranges.now clauses.now) values.now }
 {
-    if values.len() != ranges.len() {
-        return false;
-    }
-    for k in 0..values.len() {
-        if !clauses[k].cut(&ranges[k]).holds(values[k]) {
-            return false;
-        }
-    }
-    true
+    values.len() == ranges.len()
+        && ranges
+            .iter()
+            .zip(clauses)
+            .zip(values)
+            .all(|((range, clause), value)| clause.cut(range).holds(*value))
 }
 
 impl Rule {

@@ -2,6 +2,7 @@
 ghost use Rattle.std.specs.Prelude.{◌≡◌, ◌≤◌, length, take};
 
 use crate::kind::RequestKind;
+use std::array;
 
 #[derive(Clone, Copy)]
 pub struct Values {
@@ -14,13 +15,7 @@ pub struct Values {
 fn values_of<Q: RequestKind>(request: &Q) -> [u32; 6]
     ensures { take (length Q.RequestKind.ranges) result ≡ Q.RequestKind.values request.now }
 {
-    let mut values = [0; 6];
-    for k in 0..Q::field_count() {
-        if let Some(value) = request.value(k + 1) {
-            values[k] = value;
-        }
-    }
-    values
+    array::from_fn(|k| request.value(k + 1).unwrap_or(0))
 }
 
 impl Values {

@@ -1,25 +1,12 @@
--- Each turn gathers the next field's range; after the last, all of them.
-use Rattle.std.proofs.Common.{◌≡◌, length, refl, subst, arith}
+-- Past the kind's own ranges the array is as it was at first.
+use Rattle.std.proofs.Common.{◌-◌, length, ◌∙◌, ap, replicate, drop, arith}
+use Rattle.std.proofs.lemmas.List.{drop_at, drop-replicate}
 use Rattle.rules.specs.Intervals.{from_to}
-use Rattle.rules.proofs.Gathered.{BlankPast, gathered_more, gathered_none, gathered_all, blank_more}
 use Rattle.rules.proofs.limits.whole_ranges.Goals as goal
-use Rattle.rules.proofs.limits.whole_ranges.Goals.{in-Some, in_default}
 
-pub loop-k-preserved : goal.loop-k-preserved
-loop-k-preserved g c =
-    let own = g.Q.RequestKind.ranges in
-    let few = g.met.Q.RequestKind.ranged in
-    elim c.match-range.branch [
-      | in-Some w ↦ rw w.ranges-is
-          (gathered_more own c.loop-k.ranges c.loop-k.k w.in-Some.range (omega arith) (omega arith) c.loop-k.invariant.0 w.in-Some.ensures, blank_more (from_to 0 0) c.loop-k.ranges c.loop-k.k w.in-Some.range (omega arith) c.loop-k.invariant.0.0 c.loop-k.invariant.1)
-      | in_default w ↦ gathered_none own c.loop-k.k (from_to 0 0) (omega arith) w.in_default.ensures
-    ]
-
-pub returns : goal.returns
-returns g c =
-    let own = g.Q.RequestKind.ranges in
-    let end : c.loop-k.k ≡ length own = omega arith in
-    record {
-      own = gathered_all own c.loop-k.ranges _ c.loop-k.k refl (omega arith) c.loop-k.invariant.0;
-      past = subst (BlankPast (from_to 0 0) c.loop-k.ranges) end c.loop-k.invariant.1;
-    }
+pub returns-clause-past : goal.returns-clause-past
+returns-clause-past g c =
+    let n = length g.Q.RequestKind.ranges in
+    let m = length c.ranges-own.result.now in
+    let blank = from_to 0 0 in
+    drop_at c.copy_from_slice.new.self (drop m (replicate 6 blank)) n (omega (arith, ap length c.ranges-own.ensures, ap length c.copy_from_slice.ensures.after)) ∙ drop-replicate m 6 blank ∙ ap (λ k. replicate (6 - k) blank) (ap length c.ranges-own.ensures)
