@@ -12,16 +12,21 @@ pub struct Judged<'a> {
     pub verdict: &'a Verdict<CommandDecision>,
 }
 
-// As "Test 1 (code 150, ...): hold by the rule at place 1, matching set 11; expected permit 30: fails".
+// As "test 1 (code 150, ..): hold, by the rule at place 1, matching set 11; expected permit 30: fails".
 impl fmt::Display for Judged<'_> {
     fn fmt<W: fmt::Write>(&self, f: &mut fmt::Formatter<W>) -> fmt::Result {
-        let number = self.number;
-        let request = self.test.request;
-        let expected = self.test.expected;
-        let decision = self.verdict.decision;
-        let place = self.verdict.place;
-        let matching = self.verdict.matching;
-        let outcome = if self.test.passes(&decision) {
+        let Judged {
+            number,
+            test,
+            verdict,
+        } = self;
+        let Test { request, expected } = test;
+        let Verdict {
+            decision,
+            place,
+            matching,
+        } = verdict;
+        let outcome = if test.passes(decision) {
             "passes"
         } else {
             "fails"
