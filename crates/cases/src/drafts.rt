@@ -33,13 +33,13 @@ const CLAUSES: [(usize, u32, u32, u8); 15] = [
 
 #[test]
 fn each_clause_is_checked(rt: HostRuntime) -> Result<(), Fail> {
-    for (field, lower, upper, number) in CLAUSES.iter() {
+    for (field, lower, upper, number) in CLAUSES {
         let mut draft = draft(rt.alloc())?;
         assert_eq!(rt;
-            declined(draft.add(only(*field, *lower, *upper), CommandDecision::Hold)),
-            *number
+            declined(draft.add(only(field, lower, upper), CommandDecision::Hold)),
+            number
         );
-        let expected = if *number == 0 { 2 } else { 1 };
+        let expected = if number == 0 { 2 } else { 1 };
         assert_eq!(rt; draft.close().count(), expected);
     }
     Ok(())

@@ -2,7 +2,9 @@
 use crate::example::{declined, table};
 use kinds::command::Command;
 use kinds::command_decision::CommandDecision;
-use rules::kind::{DecisionKind, RequestKind};
+use rules::decline::Decline;
+use rules::kind::DecisionKind;
+use std::process::Abort;
 use std::test::Fail;
 use tables::edit::Edit;
 use tables::table::Table;
@@ -46,62 +48,50 @@ const CHANGES: [(usize, u32, u8); 8] = [
     (4, 241, 0),
 ];
 
-// The numbers of the decisions at places 1 to 4, 255 where there is no rule.
-fn decisions(table: &Table<Command, CommandDecision>) -> [u8; 4] {
-    let mut numbers = [255; 4];
-    for k in 0..4usize {
-        if let Ok(decision) = table.decision_at(k + 1) {
-            numbers[k] = decision.number();
-        }
+// The numbers of the decisions at the first N places.
+fn decisions<const N: usize>(table: &Table<Command, CommandDecision>) -> Result<[u8; N], Decline> {
+    let mut numbers = [0; N];
+    for (k, number) in numbers.iter_mut().enumerate() {
+        *number = table.decision_at(k + 1)?.number();
     }
-    numbers
+    Ok(numbers)
+}
+
+// The edit of the example table is declined with this number, and the table is then as it was; or it is accepted.
+fn tried(
+    rt: &(impl Abort + AllocGlobal),
+    edit: &Edit<CommandDecision>,
+    number: u8,
+) -> Result<(), Fail> {
+    let mut table = table(rt.alloc())?;
+    assert_eq!(rt; declined(table.edit(edit)), number, "{edit}");
+    if number != 0 {
+        assert_eq!(rt; decisions(&table)?, [1, 31, 11, 0]);
+    }
+    Ok(())
 }
 
 #[test]
 fn swaps(rt: HostRuntime) -> Result<(), Fail> {
-    for (first, second, number) in SWAPS.iter() {
-        let mut table = table(rt.alloc())?;
-        assert_eq!(rt;
-            declined(table.edit(&Edit::Swap {
-                first: *first,
-                second: *second,
-            },)),
-            *number
-        );
-        if *number != 0 {
-            assert_eq!(rt; decisions(&table), [1, 31, 11, 0]);
-        }
+    for (first, second, number) in SWAPS {
+        tried(&rt, &Edit::Swap { first, second }, number)?;
     }
     Ok(())
 }
 
 #[test]
 fn deletions(rt: HostRuntime) -> Result<(), Fail> {
-    for (place, number) in DELETIONS.iter() {
-        let mut table = table(rt.alloc())?;
-        assert_eq!(rt;
-            declined(table.edit(&Edit::Delete { place: *place })),
-            *number
-        );
-        if *number != 0 {
-            assert_eq!(rt; decisions(&table), [1, 31, 11, 0]);
-        }
+    for (place, number) in DELETIONS {
+        tried(&rt, &Edit::Delete { place }, number)?;
     }
     Ok(())
 }
 
 #[test]
 fn changes(rt: HostRuntime) -> Result<(), Fail> {
-    for (place, decision, number) in CHANGES.iter() {
-        let mut table = table(rt.alloc())?;
-        let edit = Edit::Change {
-            place: *place,
-            decision: CommandDecision::make(*decision)?,
-        };
-        assert_eq!(rt; declined(table.edit(&edit)), *number);
-        if *number != 0 {
-            assert_eq!(rt; decisions(&table), [1, 31, 11, 0]);
-        }
+    for (place, decision, number) in CHANGES {
+        let decision = CommandDecision::make(decision)?;
+        tried(&rt, &Edit::Change { place, decision }, number)?;
     }
     Ok(())
 }
@@ -113,14 +103,15 @@ fn accepted_edits(rt: HostRuntime) -> Result<(), Fail> {
         first: 1,
         second: 3,
     })?;
-    assert_eq!(rt; decisions(&table), [11, 31, 1, 0]);
+    assert_eq!(rt; decisions(&table)?, [11, 31, 1, 0]);
     table.edit(&Edit::Change {
         place: 4,
         decision: CommandDecision::Hold,
     })?;
-    assert_eq!(rt; decisions(&table), [11, 31, 1, 1]);
+    assert_eq!(rt; decisions(&table)?, [11, 31, 1, 1]);
     table.edit(&Edit::Delete { place: 2 })?;
-    assert_eq!(rt; decisions(&table), [11, 1, 1, 255]);
+    assert_eq!(rt; decisions(&table)?, [11, 1, 1]);
+    assert_eq!(rt; declined(table.decision_at(4)), 10);
     assert_eq!(rt; table.count(), 3);
     Ok(())
 }

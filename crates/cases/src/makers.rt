@@ -6,53 +6,58 @@ use kinds::minutes::Minutes;
 use kinds::packet::Packet;
 use kinds::packet_decision::PacketDecision;
 use rules::kind::{DecisionKind, RequestKind};
+use std::process::Abort;
 use std::test::Fail;
 
-// Five values, and the number with which a request of them is declined.
-const COMMANDS: [([u32; 5], u8); 13] = [
-    ([0, 1, 0, 0, 0], 0),
-    ([9999, 4, 63, 16, 10079], 0),
-    ([10000, 1, 0, 0, 0], 9),
-    ([0, 0, 0, 0, 0], 9),
-    ([0, 5, 0, 0, 0], 9),
-    ([0, 1, 64, 0, 0], 9),
-    ([0, 1, 0, 17, 0], 9),
-    ([0, 1, 0, 0, 10080], 9),
-    ([4294967295, 1, 0, 0, 0], 9),
-    ([0, 4294967295, 0, 0, 0], 9),
-    ([0, 1, 4294967295, 0, 0], 9),
-    ([0, 1, 0, 4294967295, 0], 9),
-    ([0, 1, 0, 0, 4294967295], 9),
+// Values, and the number with which a command of them is declined.
+const COMMANDS: [(&[u32], u8); 16] = [
+    (&[0, 1, 0, 0, 0], 0),
+    (&[9999, 4, 63, 16, 10079], 0),
+    (&[10000, 1, 0, 0, 0], 9),
+    (&[0, 0, 0, 0, 0], 9),
+    (&[0, 5, 0, 0, 0], 9),
+    (&[0, 1, 64, 0, 0], 9),
+    (&[0, 1, 0, 17, 0], 9),
+    (&[0, 1, 0, 0, 10080], 9),
+    (&[4294967295, 1, 0, 0, 0], 9),
+    (&[0, 4294967295, 0, 0, 0], 9),
+    (&[0, 1, 4294967295, 0, 0], 9),
+    (&[0, 1, 0, 4294967295, 0], 9),
+    (&[0, 1, 0, 0, 4294967295], 9),
+    (&[0, 1, 0, 0], 9),
+    (&[0, 1, 0, 0, 0, 0], 9),
+    (&[], 9),
 ];
 
-const PACKETS: [([u32; 5], u8); 8] = [
-    ([0, 0, 0, 0, 0], 0),
-    ([4294967295, 4294967295, 65535, 65535, 255], 0),
-    ([0, 0, 65536, 0, 0], 9),
-    ([0, 0, 0, 65536, 0], 9),
-    ([0, 0, 0, 0, 256], 9),
-    ([0, 0, 4294967295, 0, 0], 9),
-    ([0, 0, 0, 4294967295, 0], 9),
-    ([0, 0, 0, 0, 4294967295], 9),
+// The same of packets.
+const PACKETS: [(&[u32], u8); 10] = [
+    (&[0, 0, 0, 0, 0], 0),
+    (&[4294967295, 4294967295, 65535, 65535, 255], 0),
+    (&[0, 0, 65536, 0, 0], 9),
+    (&[0, 0, 0, 65536, 0], 9),
+    (&[0, 0, 0, 0, 256], 9),
+    (&[0, 0, 4294967295, 0, 0], 9),
+    (&[0, 0, 0, 4294967295, 0], 9),
+    (&[0, 0, 0, 0, 4294967295], 9),
+    (&[0, 0, 0, 0], 9),
+    (&[0, 0, 0, 0, 0, 0], 9),
 ];
+
+// Making a request of each row's values is declined with its number.
+fn made<Q: RequestKind>(rt: &impl Abort, rows: &[(&[u32], u8)]) {
+    for (values, number) in rows {
+        assert_eq!(rt; declined(Q::make(values)), *number);
+    }
+}
 
 #[test]
 fn commands_at_their_bounds(rt: HostRuntime) {
-    for (values, number) in COMMANDS.iter() {
-        assert_eq!(rt; declined(Command::make(values)), *number);
-    }
-    assert_eq!(rt; declined(Command::make(&[0, 1, 0, 0])), 9);
-    assert_eq!(rt; declined(Command::make(&[0, 1, 0, 0, 0, 0])), 9);
-    assert_eq!(rt; declined(Command::make(&[])), 9);
+    made::<Command>(&rt, &COMMANDS);
 }
 
 #[test]
 fn packets_at_their_bounds(rt: HostRuntime) {
-    for (values, number) in PACKETS.iter() {
-        assert_eq!(rt; declined(Packet::make(values)), *number);
-    }
-    assert_eq!(rt; declined(Packet::make(&[0, 0, 0, 0])), 9);
-    assert_eq!(rt; declined(Packet::make(&[0, 0, 0, 0, 0, 0])), 9);
+    made::<Packet>(&rt, &PACKETS);
 }
 
 #[test]

@@ -1,6 +1,6 @@
 // Kinds of one field and of six, of one decision and of 256, through draft, table and scan.
 use crate::button::{Button, Never};
-use crate::example::declined;
+use crate::example::{declined, plain};
 use crate::grade::Grade;
 use crate::reading::Reading;
 use judges::judge::Judge;
@@ -23,10 +23,7 @@ fn one_field_and_one_decision(rt: HostRuntime) -> Result<(), Fail> {
     draft.add(clauses, Never::Refused)?;
     let mut scan = Scan::new(draft.close());
     let nine = scan.judge(&Button::make(&[9])?);
-    assert_eq!(rt;
-        (nine.decision.number(), nine.place, nine.matching),
-        (0, 1, 3)
-    );
+    assert_eq!(rt; plain(&nine), (0, 1, 3));
     let seven = scan.judge(&Button::make(&[7])?);
     assert_eq!(rt; (seven.place, seven.matching), (2, 2));
     assert_eq!(rt;
@@ -62,15 +59,9 @@ fn six_fields_and_256_decisions(rt: HostRuntime) -> Result<(), Fail> {
     assert_eq!(rt; declined(draft.add(clauses, Grade::make(0)?)), 5);
     let mut scan = Scan::new(draft.close());
     let last = scan.judge(&Reading::make(&[4294967295, 5, 1, 20, 4294967295, 999])?);
-    assert_eq!(rt;
-        (last.decision.number(), last.place, last.matching),
-        (255, 2, 2)
-    );
+    assert_eq!(rt; plain(&last), (255, 2, 2));
     let first = scan.judge(&Reading::make(&[0, 5, 0, 10, 4294967294, 1000])?);
-    assert_eq!(rt;
-        (first.decision.number(), first.place, first.matching),
-        (0, 1, 3)
-    );
+    assert_eq!(rt; plain(&first), (0, 1, 3));
     scan.edit(&Edit::Change {
         place: 1,
         decision: Grade::make(255)?,

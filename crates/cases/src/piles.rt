@@ -1,6 +1,6 @@
 // Layers over the example table and over a packet table: windows and withdrawals in both orders and twice on one field,
 // the ends of windows, a full note, and every decline in its order.
-use crate::example::{declined, table};
+use crate::example::{declined, plain, table};
 use judges::judge::Judge;
 use judges::scan::Scan;
 use kinds::command::Command;
@@ -28,12 +28,13 @@ fn swapped(heap: Global) -> Result<Scan<Command, CommandDecision>, Decline> {
     Ok(scan)
 }
 
-// The number of the decision on code 150 at level 3 and this minute; 255 where there is no such request.
-fn at<J: Judge<Request = Command, Decision = CommandDecision>>(judge: &J, minute: u32) -> u8 {
-    match Command::new(150, 3, 7, 2, minute) {
-        Ok(request) => judge.judge(&request).decision.number(),
-        Err(_) => 255,
-    }
+// The number of the decision on code 150 at level 3 and this minute.
+fn at<J: Judge<Request = Command, Decision = CommandDecision>>(
+    judge: &J,
+    minute: u32,
+) -> Result<u8, Decline> {
+    let request = Command::new(150, 3, 7, 2, minute)?;
+    Ok(judge.judge(&request).decision.number())
 }
 
 // A window layer on the minute, with one window of this cap.
@@ -48,20 +49,6 @@ fn capped(
     Ok(windows)
 }
 
-// A step of a pile: withdrawing (true) or giving back a value of a field, and the number with which it is declined.
-fn step<J: Judge<Request = Command, Decision = CommandDecision>>(
-    judge: &mut J,
-    withdraw: bool,
-    field: usize,
-    value: u32,
-) -> u8 {
-    if withdraw {
-        declined(judge.withdraw(field, value))
-    } else {
-        declined(judge.give_back(field, value))
-    }
-}
-
 #[test]
 fn a_window_at_its_ends(rt: HostRuntime) -> Result<(), Fail> {
     let pile = capped(rt.alloc(), 600, 1439, 1)?.over(swapped(rt.alloc())?);
@@ -74,7 +61,7 @@ fn a_window_at_its_ends(rt: HostRuntime) -> Result<(), Fail> {
         (1440, 31),
         (10079, 31),
     ] {
-        assert_eq!(rt; at(&pile, minute), number);
+        assert_eq!(rt; at(&pile, minute)?, number);
     }
     let verdict = pile.judge(&Command::new(150, 3, 7, 2, 600)?);
     assert_eq!(rt; (verdict.place, verdict.matching), (1, 11));
@@ -97,7 +84,7 @@ fn the_smallest_cap_wherever_it_stands(rt: HostRuntime) -> Result<(), Fail> {
         (2001, 31),
         (3001, 31),
     ] {
-        assert_eq!(rt; at(&pile, minute), number);
+        assert_eq!(rt; at(&pile, minute)?, number);
     }
     assert_eq!(rt;
         pile.judge(&Command::new(9, 1, 7, 2, 600)?)
@@ -144,13 +131,10 @@ fn adding_windows_is_declined_in_order(rt: HostRuntime) -> Result<(), Fail> {
 fn a_withdrawn_code_is_refused_until_it_is_given_back(rt: HostRuntime) -> Result<(), Fail> {
     let mut pile = Withdrawals::on(rt.alloc(), 1)?.over(swapped(rt.alloc())?);
     let request = Command::new(150, 3, 7, 2, 600)?;
-    assert_eq!(rt; at(&pile, 600), 31);
+    assert_eq!(rt; at(&pile, 600)?, 31);
     pile.withdraw(1, 150)?;
     let verdict = pile.judge(&request);
-    assert_eq!(rt;
-        (verdict.decision.number(), verdict.place, verdict.matching),
-        (0, 1, 11)
-    );
+    assert_eq!(rt; plain(&verdict), (0, 1, 11));
     let under = pile.judge_under(
         &request,
         &Edit::Swap {
@@ -161,11 +145,11 @@ fn a_withdrawn_code_is_refused_until_it_is_given_back(rt: HostRuntime) -> Result
     assert_eq!(rt; (under.decision.number(), under.place), (0, 1));
     pile.edit(&Edit::Delete { place: 3 })?;
     assert_eq!(rt;
-        (pile.count(), declined(pile.decision_at(4)), at(&pile, 600)),
+        (pile.count(), declined(pile.decision_at(4)), at(&pile, 600)?),
         (3, 10, 0)
     );
     pile.give_back(1, 150)?;
-    assert_eq!(rt; at(&pile, 600), 31);
+    assert_eq!(rt; at(&pile, 600)?, 31);
     Ok(())
 }
 
@@ -178,25 +162,20 @@ fn withdrawing_is_declined_in_order(rt: HostRuntime) -> Result<(), Fail> {
         );
     }
     let mut pile = Withdrawals::on(rt.alloc(), 1)?.over(swapped(rt.alloc())?);
-    let steps = [
-        (true, 6, 0, 14),
-        (true, 1, 10000, 5),
-        (true, 2, 0, 5),
-        (true, 2, 1, 15),
-        (false, 0, 0, 14),
-        (false, 1, 10000, 5),
-        (false, 2, 1, 15),
-        (false, 1, 150, 18),
-        (true, 1, 150, 0),
-        (true, 1, 150, 16),
-        (true, 1, 9999, 0),
-        (false, 1, 150, 0),
-        (false, 1, 150, 18),
-        (false, 1, 9999, 0),
-    ];
-    for (withdraw, field, value, number) in steps {
-        assert_eq!(rt; step(&mut pile, withdraw, field, value), number);
-    }
+    assert_eq!(rt; declined(pile.withdraw(6, 0)), 14);
+    assert_eq!(rt; declined(pile.withdraw(1, 10000)), 5);
+    assert_eq!(rt; declined(pile.withdraw(2, 0)), 5);
+    assert_eq!(rt; declined(pile.withdraw(2, 1)), 15);
+    assert_eq!(rt; declined(pile.give_back(0, 0)), 14);
+    assert_eq!(rt; declined(pile.give_back(1, 10000)), 5);
+    assert_eq!(rt; declined(pile.give_back(2, 1)), 15);
+    assert_eq!(rt; declined(pile.give_back(1, 150)), 18);
+    assert_eq!(rt; declined(pile.withdraw(1, 150)), 0);
+    assert_eq!(rt; declined(pile.withdraw(1, 150)), 16);
+    assert_eq!(rt; declined(pile.withdraw(1, 9999)), 0);
+    assert_eq!(rt; declined(pile.give_back(1, 150)), 0);
+    assert_eq!(rt; declined(pile.give_back(1, 150)), 18);
+    assert_eq!(rt; declined(pile.give_back(1, 9999)), 0);
     Ok(())
 }
 
@@ -206,16 +185,12 @@ fn thirty_two_values_and_no_more(rt: HostRuntime) -> Result<(), Fail> {
     for code in 0..32u32 {
         pile.withdraw(1, code)?;
     }
-    for (withdraw, value, number) in [
-        (true, 32, 17),
-        (true, 31, 16),
-        (false, 0, 0),
-        (true, 32, 0),
-        (true, 33, 17),
-        (false, 0, 18),
-    ] {
-        assert_eq!(rt; step(&mut pile, withdraw, 1, value), number);
-    }
+    assert_eq!(rt; declined(pile.withdraw(1, 32)), 17);
+    assert_eq!(rt; declined(pile.withdraw(1, 31)), 16);
+    assert_eq!(rt; declined(pile.give_back(1, 0)), 0);
+    assert_eq!(rt; declined(pile.withdraw(1, 32)), 0);
+    assert_eq!(rt; declined(pile.withdraw(1, 33)), 17);
+    assert_eq!(rt; declined(pile.give_back(1, 0)), 18);
     Ok(())
 }
 
@@ -225,42 +200,49 @@ fn two_withdrawal_layers_on_one_field(rt: HostRuntime) -> Result<(), Fail> {
     let mut inner = Withdrawals::on(rt.alloc(), 1)?.over(swapped(rt.alloc())?);
     inner.withdraw(1, 150)?;
     let mut pile = Withdrawals::on(rt.alloc(), 1)?.over(inner);
-    for (withdraw, number) in [(false, 18), (true, 0), (true, 16), (false, 0), (false, 18)] {
-        assert_eq!(rt; step(&mut pile, withdraw, 1, 150), number);
-        assert_eq!(rt; at(&pile, 600), 0);
-    }
+    assert_eq!(rt;
+        (declined(pile.give_back(1, 150)), at(&pile, 600)?),
+        (18, 0)
+    );
+    assert_eq!(rt; (declined(pile.withdraw(1, 150)), at(&pile, 600)?), (0, 0));
+    assert_eq!(rt; (declined(pile.withdraw(1, 150)), at(&pile, 600)?), (16, 0));
+    assert_eq!(rt; (declined(pile.give_back(1, 150)), at(&pile, 600)?), (0, 0));
+    assert_eq!(rt;
+        (declined(pile.give_back(1, 150)), at(&pile, 600)?),
+        (18, 0)
+    );
     Ok(())
 }
 
 #[test]
 fn layers_in_both_orders(rt: HostRuntime) -> Result<(), Fail> {
-    let mut above = Withdrawals::on(rt.alloc(), 1)?.over(capped(rt.alloc(), 0, 1439, 1)?.over(
-        swapped(rt.alloc())?,
-    ));
-    let mut below = capped(rt.alloc(), 0, 1439, 1)?.over(Withdrawals::on(rt.alloc(), 1)?.over(
-        swapped(rt.alloc())?,
-    ));
+    let window = capped(rt.alloc(), 0, 1439, 1)?.over(swapped(rt.alloc())?);
+    let mut above = Withdrawals::on(rt.alloc(), 1)?.over(window);
+    let withdrawals = Withdrawals::on(rt.alloc(), 1)?.over(swapped(rt.alloc())?);
+    let mut below = capped(rt.alloc(), 0, 1439, 1)?.over(withdrawals);
     for (minute, number) in [(0, 1), (1439, 1), (1440, 31)] {
-        assert_eq!(rt; (at(&above, minute), at(&below, minute)), (number, number));
+        assert_eq!(rt;
+            (at(&above, minute)?, at(&below, minute)?),
+            (number, number)
+        );
     }
     assert_eq!(rt;
         (
-            step(&mut above, true, 1, 150),
-            step(&mut below, true, 1, 150),
+            declined(above.withdraw(1, 150)),
+            declined(below.withdraw(1, 150)),
         ),
         (0, 0)
     );
     for minute in [0, 1439, 1440] {
-        assert_eq!(rt; (at(&above, minute), at(&below, minute)), (0, 0));
+        assert_eq!(rt; (at(&above, minute)?, at(&below, minute)?), (0, 0));
     }
     Ok(())
 }
 
 #[test]
 fn two_window_layers_on_one_field(rt: HostRuntime) -> Result<(), Fail> {
-    let pile = capped(rt.alloc(), 0, 1000, 11)?.over(capped(rt.alloc(), 500, 1500, 1)?.over(swapped(
-        rt.alloc(),
-    )?));
+    let inner = capped(rt.alloc(), 500, 1500, 1)?.over(swapped(rt.alloc())?);
+    let pile = capped(rt.alloc(), 0, 1000, 11)?.over(inner);
     for (minute, number) in [
         (0, 11),
         (499, 11),
@@ -269,7 +251,7 @@ fn two_window_layers_on_one_field(rt: HostRuntime) -> Result<(), Fail> {
         (1500, 1),
         (1501, 31),
     ] {
-        assert_eq!(rt; at(&pile, minute), number);
+        assert_eq!(rt; at(&pile, minute)?, number);
     }
     Ok(())
 }
@@ -277,10 +259,8 @@ fn two_window_layers_on_one_field(rt: HostRuntime) -> Result<(), Fail> {
 // Every packet is accepted, but those to ports 0 to 1023, and then those from a withdrawn source.
 #[test]
 fn packets_under_both_layers(rt: HostRuntime) -> Result<(), Fail> {
-    let open = Scan::new(Draft::<Packet, PacketDecision>::new(
-        rt.alloc(),
-        PacketDecision::Accept,
-    )?.close());
+    let draft = Draft::<Packet, PacketDecision>::new(rt.alloc(), PacketDecision::Accept)?;
+    let open = Scan::new(draft.close());
     let mut closed = Windows::on(rt.alloc(), 4)?;
     closed.add(Interval::new(0, 1023), PacketDecision::Discard)?;
     let mut pile = Withdrawals::on(rt.alloc(), 1)?.over(closed.over(open));

@@ -1,10 +1,12 @@
 // The scan over the example table and over full tables: verdicts, judging under an edit, and the calls that need a layer.
-use crate::example::{declined, only, table};
+use crate::example::{declined, only, plain, table};
 use judges::judge::Judge;
 use judges::scan::Scan;
 use kinds::command::Command;
 use kinds::command_decision::CommandDecision;
+use rules::decline::Decline;
 use rules::kind::{DecisionKind, RequestKind};
+use std::alloc::Global;
 use std::test::Fail;
 use tables::draft::Draft;
 use tables::edit::Edit;
@@ -19,10 +21,7 @@ fn the_three_tests(rt: HostRuntime) -> Result<(), Fail> {
     ];
     for (values, answer) in tests {
         let verdict = scan.judge(&Command::make(&values)?);
-        assert_eq!(rt;
-            (verdict.decision.number(), verdict.place, verdict.matching),
-            answer
-        );
+        assert_eq!(rt; plain(&verdict), answer);
     }
     Ok(())
 }
@@ -36,10 +35,7 @@ fn under_an_edit_and_after_it(rt: HostRuntime) -> Result<(), Fail> {
         second: 2,
     };
     let under = scan.judge_under(&request, &swap)?;
-    assert_eq!(rt;
-        (under.decision.number(), under.place, under.matching),
-        (31, 1, 11)
-    );
+    assert_eq!(rt; plain(&under), (31, 1, 11));
     assert_eq!(rt; scan.judge(&request).decision.number(), 1);
     scan.edit(&swap)?;
     assert_eq!(rt; scan.judge(&request).decision.number(), 31);
@@ -47,10 +43,7 @@ fn under_an_edit_and_after_it(rt: HostRuntime) -> Result<(), Fail> {
         &Command::new(120, 2, 7, 2, 600)?,
         &Edit::Delete { place: 2 },
     )?;
-    assert_eq!(rt;
-        (delete.decision.number(), delete.place, delete.matching),
-        (0, 3, 4)
-    );
+    assert_eq!(rt; plain(&delete), (0, 3, 4));
     let change = scan.judge_under(
         &request,
         &Edit::Change {
@@ -85,34 +78,29 @@ fn declined_as_the_edit_would_be(rt: HostRuntime) -> Result<(), Fail> {
     Ok(())
 }
 
+// A scan over 63 rules that hold these codes, and the default, which refuses.
+fn full(heap: Global, lower: u32, upper: u32) -> Result<Scan<Command, CommandDecision>, Decline> {
+    let mut draft = Draft::new(heap, CommandDecision::Refuse)?;
+    for _ in 0..63u8 {
+        draft.add(only(0, lower, upper), CommandDecision::Hold)?;
+    }
+    Ok(Scan::new(draft.close()))
+}
+
 #[test]
 fn sixty_four_rules_that_match(rt: HostRuntime) -> Result<(), Fail> {
-    let mut draft = Draft::new(rt.alloc(), CommandDecision::Refuse)?;
-    for _ in 0..63u8 {
-        draft.add(only(0, 0, 9999), CommandDecision::Hold)?;
-    }
-    let scan = Scan::new(draft.close());
+    let scan = full(rt.alloc(), 0, 9999)?;
     assert_eq!(rt; scan.count(), 64);
     let all = scan.judge(&Command::new(0, 1, 0, 0, 0)?);
-    assert_eq!(rt;
-        (all.decision.number(), all.place, all.matching),
-        (1, 1, 18446744073709551615)
-    );
+    assert_eq!(rt; plain(&all), (1, 1, 18446744073709551615));
     Ok(())
 }
 
 #[test]
 fn the_default_at_place_sixty_four(rt: HostRuntime) -> Result<(), Fail> {
-    let mut draft = Draft::new(rt.alloc(), CommandDecision::Refuse)?;
-    for _ in 0..63u8 {
-        draft.add(only(0, 1, 1), CommandDecision::Hold)?;
-    }
-    let scan = Scan::new(draft.close());
+    let scan = full(rt.alloc(), 1, 1)?;
     let last = scan.judge(&Command::new(0, 1, 0, 0, 0)?);
-    assert_eq!(rt;
-        (last.decision.number(), last.place, last.matching),
-        (0, 64, 9223372036854775808)
-    );
+    assert_eq!(rt; plain(&last), (0, 64, 9223372036854775808));
     Ok(())
 }
 
