@@ -7,16 +7,18 @@ use kinds::command::Command;
 use kinds::command_decision::CommandDecision;
 use kinds::packet::Packet;
 use kinds::packet_decision::PacketDecision;
-use layers::keeper::Keeper;
 use layers::windows::Windows;
 use layers::withdrawals::Withdrawals;
 use rules::decline::Decline;
 use rules::interval::Interval;
-use rules::kind::{DecisionKind, RequestKind};
+use rules::kind::DecisionKind;
 use std::alloc::Global;
 use std::test::Fail;
 use tables::draft::Draft;
 use tables::edit::Edit;
+
+// A field of a command, and the number with which setting up a layer on it is declined.
+const FIELDS: [(usize, u8); 4] = [(0, 14), (1, 0), (5, 0), (6, 14)];
 
 // The example table after swap 1, 2: code 150 at level 3 is permitted for 30 minutes by the rule at place 1.
 fn swapped(heap: Global) -> Result<Scan<Command, CommandDecision>, Decline> {
@@ -97,7 +99,7 @@ fn the_smallest_cap_wherever_it_stands(rt: HostRuntime) -> Result<(), Fail> {
 
 #[test]
 fn adding_windows_is_declined_in_order(rt: HostRuntime) -> Result<(), Fail> {
-    for (field, number) in [(0, 14), (1, 0), (5, 0), (6, 14)] {
+    for (field, number) in FIELDS {
         assert_eq!(rt;
             declined(Windows::<Command, CommandDecision>::on(rt.alloc(), field)),
             number
@@ -155,7 +157,7 @@ fn a_withdrawn_code_is_refused_until_it_is_given_back(rt: HostRuntime) -> Result
 
 #[test]
 fn withdrawing_is_declined_in_order(rt: HostRuntime) -> Result<(), Fail> {
-    for (field, number) in [(0, 14), (1, 0), (5, 0), (6, 14)] {
+    for (field, number) in FIELDS {
         assert_eq!(rt;
             declined(Withdrawals::<Command>::on(rt.alloc(), field)),
             number
