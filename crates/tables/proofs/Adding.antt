@@ -1,7 +1,6 @@
 -- Adding a rule: the checks of its clauses one after the other, and that a rule in range is not cut. Assumes nothing.
-use Rattle.std.proofs.Common.{◌≡◌, ℕ, ◌+◌, ◌<◌, ◌≤◌, true, not, List, [], ◌∷◌, ◌++◌, length, get_or, take, drop, set, Some, None, Option, sym, refl, ap, ◌∙◌, le_of_suc-le-suc, not-suc-le-zero, arith}
-use Rattle.std.proofs.lemmas.List.{drop_more, drop_all, length-take, length-set, get_or-take, take_more, take_more_set}
-use Rattle.std.proofs.ByRecursion.{All-get_or, All-set}
+use Rattle.std.proofs.Common.{◌≡◌, ℕ, ◌≤◌, true, not, List, [], ◌∷◌, ◌++◌, length, take, drop, replicate, Some, None, Option, refl, ap, ◌∙◌, ◌⊎◌, inl, inr, le_of_suc-le-suc, not-suc-le-zero, arith}
+use Rattle.std.proofs.lemmas.List.Elements.{All-append, All-drop, All-replicate}
 use Rattle.std.proofs.lemmas.Bool.{not-false, and_from}
 use Rattle.rules.specs.declared.decline.Decline.{Decline}
 use Rattle.rules.specs.declared.decline.Decline.TheVariants.{OutsideRange, LowerAboveUpper}
@@ -13,19 +12,7 @@ use Rattle.rules.specs.Intervals.{inside, forward, every, nearest, cut_interval,
 use Rattle.rules.specs.Rules.{cut_clauses}
 use Rattle.tables.proofs.Declining.{unless_none}
 use Rattle.rules.proofs.Insides.{inside_true}
-use Rattle.tables.proofs.Kept.{every_all, all_every}
-
--- the checks from field k on, fields counted from 0
-abbrev pub checks_from : List Interval → List Interval → ℕ → Option Decline
-checks_from ranges clauses k = clauses_decline (drop k ranges) (drop k clauses)
-
-pub checks_more : (ranges clauses : List Interval) (k : ℕ) (o : Option Decline) → k < length ranges → k < length clauses
-    → o ≡ clause_decline (get_or ranges k (from_to 0 0)) (get_or clauses k (from_to 0 0)) → checks_from ranges clauses k ≡ or_else o (checks_from ranges clauses (k + 1))
-checks_more ranges clauses k o in-ranges in_clauses is =
-    rw (drop_more ranges k (from_to 0 0) in-ranges, drop_more clauses k (from_to 0 0) in_clauses, ← is)
-
-pub checks_all : (ranges clauses : List Interval) (k : ℕ) → length ranges ≤ k → checks_from ranges clauses k ≡ None
-checks_all ranges clauses k h = rw (drop_all k ranges h)
+use Rattle.tables.proofs.Kept.{every_decides}
 
 or_else_none : (o later : Option Decline) → or_else o later ≡ None → (o ≡ None) × (later ≡ None)
 or_else_none None later h = (refl, h)
@@ -66,21 +53,17 @@ taken_cut (r ∷ rs) (c ∷ cs) (k ∷ ks) le h same =
     let later : take (length rs) ks ≡ take (length rs) cs = cc in
     ap (λ i. cut_interval r i ∷ cut_clauses rs ks) first ∙ ap (λ i. i ∷ cut_clauses rs ks) (clause_taken r c both.0).0 ∙ ap (λ l. c ∷ l) (taken_cut rs cs ks (le_of_suc-le-suc le) both.1 later)
 
--- an array of six forward intervals that holds the first k clauses
-abbrev pub Fronted : List Interval → List Interval → ℕ → Type 0
-Fronted clauses front k = (length front ≡ 6) × (take k front ≡ take k clauses) × (every forward front ≡ true)
+-- clauses that run forward do so with 0 to 0 behind them
+pub padded_forward : (clauses : List Interval) (fields : ℕ) → every forward clauses ≡ true → every forward (clauses ++ drop fields (replicate 6 (from_to 0 0))) ≡ true
+padded_forward clauses fields run =
+    let runs : Interval → Type 0 = λ i. forward i ≡ true in
+    let blanks : List Interval = replicate 6 (from_to 0 0) in
+    (every_decides forward (clauses ++ drop fields blanks)).1
+    (All-append runs clauses (drop fields blanks) ((every_decides forward clauses).0 run) (All-drop runs fields blanks (All-replicate runs 6 (from_to 0 0) refl)))
 
-pub fronted_more : (clauses front : List Interval) (fields k : ℕ) → k < fields → fields ≤ 6 → fields ≤ length clauses → every forward (take fields clauses) ≡ true
-    → Fronted clauses front k → Fronted clauses (set front k (get_or clauses k (from_to 0 0))) (k + 1)
-fronted_more clauses front fields k here few long run so_far =
-    let six = so_far.0 in
-    let i : Interval = get_or clauses k (from_to 0 0) in
-    let in_front : k < length front = omega arith in
-    let in_clauses : k < length clauses = omega arith in
-    let in_taken : k < length (take fields clauses) = simp length-take (omega arith) in
-    let all = every_all forward (take fields clauses) run in
-    let this : forward i ≡ true = ap forward (sym (get_or-take fields clauses k (from_to 0 0) here)) ∙ All-get_or (λ c. forward c ≡ true) (take fields clauses) k (from_to 0 0) in_taken all in (
-      length-set front k i ∙ six,
-      take_more_set front k i in_front ∙ ap (λ l. l ++ (i ∷ [])) so_far.1 ∙ sym (take_more clauses k (from_to 0 0) in_clauses),
-      all_every forward (set front k i) (All-set (λ c. forward c ≡ true) front k i this (every_all forward front so_far.2)),
-    )
+-- no field is left to check where there is no range or no clause
+pub all_checked : (ranges clauses : List Interval) → (ranges ≡ []) ⊎ (clauses ≡ []) → clauses_decline ranges clauses ≡ None
+all_checked [] clauses h = refl
+all_checked (r ∷ rs) [] h = refl
+all_checked (r ∷ rs) (c ∷ cs) (inl e) = let z : ◌≡◌ {A = ℕ} 0 1 = cc in absurd (omega arith)
+all_checked (r ∷ rs) (c ∷ cs) (inr e) = let z : ◌≡◌ {A = ℕ} 0 1 = cc in absurd (omega arith)

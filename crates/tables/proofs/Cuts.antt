@@ -1,7 +1,7 @@
 -- Cut rules: they are lawful, and cutting goes before or after an edit alike. Assumes nothing.
-use Rattle.std.proofs.Common.{◌≡◌, ℕ, suc, ◌-◌, ◌<◌, ◌≤◌, min, true, eqb, List, [], ◌∷◌, ◌++◌, map, length, get_or, take, drop, set, vec_items, sym, refl, ap, ◌∙◌, ⊎_elim, arith}
+use Rattle.std.proofs.Common.{◌≡◌, ℕ, suc, ◌-◌, ◌<◌, ◌≤◌, min, true, eqb, List, [], ◌∷◌, ◌++◌, map, length, get_or, take, drop, set, vec_items, vec_len, sym, refl, ap, ◌∙◌, ⊎_elim, arith}
 use Rattle.std.specs.List.{insert, swap, AllByRecursion}
-use Rattle.std.proofs.ByRecursion.{All-map, All-weaker}
+use Rattle.std.proofs.lemmas.List.Elements.{All-map, All-weaker, recursion_from_All}
 use Rattle.std.proofs.lemmas.List.{map-set, map-append, take-map, drop-map, get_or-map, length-map, get_or_past}
 use Rattle.std.proofs.lemmas.Bool.{and_parts, leb-true, eqb-true, cases_lt}
 use Rattle.tables.specs.declared.edit.Edit.TheVariants.{Change, Swap, Delete}
@@ -12,7 +12,7 @@ use Rattle.tables.specs.Edits.{edited, with_decision}
 use Rattle.rules.specs.Intervals.{every, wide, forward, Forward, nearest, cut_interval, from_to}
 use Rattle.rules.specs.Kinds.{LawfulRange, LawfulRanges}
 use Rattle.rules.specs.Rules.{rule_at, forward_rule, above_default, default_rule, cut_clauses, cut_rule, cut, Lawful, LawfulRule, LawfulClause, LawfulClauses}
-use Rattle.tables.proofs.Kept.{Sound, every_all, sound_of}
+use Rattle.tables.proofs.Kept.{every_decides}
 
 abbrev blank : Rule
 blank = record { clauses = []; decision = 0 }
@@ -101,29 +101,25 @@ lawful_cut_clauses (r ∷ rs) (c ∷ cs) lawful run =
     let both = and_parts (forward c) (every forward cs) run in
     (lawful_cut_clause r c lawful.0 (leb-true c.lower c.upper both.0), lawful_cut_clauses rs cs lawful.1 both.1)
 
--- a sound list of 1 to 64 rules is lawful for any kinds, once it is cut to theirs
-pub lawful_cut : (ranges : List Interval) (count : ℕ) (rules : List Rule) → LawfulRanges ranges → 1 ≤ count → 1 ≤ length rules → length rules ≤ 64 → Sound rules
-    → Lawful ranges count (cut ranges count rules)
-lawful_cut ranges count rules lawful counted some few sound =
+-- what a list of rules stands for is lawful for any kinds, once it is cut to theirs
+pub list_lawful : (list : RuleList) (ranges : List Interval) (count : ℕ) → LawfulRanges ranges → 1 ≤ count → Lawful ranges count (cut ranges count (vec_items list.rules))
+list_lawful list ranges count lawful counted =
+    let rules = vec_items list.rules in
+    let kept = list.rules.ok.0 in
+    let some = list.some in
+    let few = list.few in
     let long = length_cut ranges count rules in
-    let whole = wide_cut ranges (rule_at rules (length rules)).clauses lawful.2 sound.wide_end in
-    let last = rule_at_cut ranges count rules (length rules) some (omega arith) in
+    let last = rule_at_cut ranges count rules (vec_len list.rules) some (omega arith) in
     record {
       some = omega arith;
       few = omega arith;
-      each = All-map (LawfulRule ranges count) (cut_rule ranges count) rules
+      each = recursion_from_All (LawfulRule ranges count) (cut ranges count rules)
+          (All-map (LawfulRule ranges count) (cut_rule ranges count) rules
           (All-weaker (λ r. forward_rule r ≡ true) (λ r. LawfulRule ranges count (cut_rule ranges count r))
-          (λ r run. (lawful_cut_clauses ranges r.clauses lawful.2 run, omega arith)) rules (every_all forward_rule rules sound.forward));
-      default = ap (λ n. (rule_at (cut ranges count rules) n).clauses) long ∙ ap (λ r. r.clauses) last ∙ whole;
+          (λ r run. (lawful_cut_clauses ranges r.clauses lawful.2 run, omega arith)) rules ((every_decides forward_rule rules).0 list.run)));
+      default = ap (λ n. (rule_at (cut ranges count rules) n).clauses) (long ∙ sym kept) ∙ ap (λ r. r.clauses) last
+          ∙ wide_cut ranges (rule_at rules (vec_len list.rules)).clauses lawful.2 list.whole;
     }
-
--- so is what a list of rules stands for
-pub list_lawful : (list : RuleList) (ranges : List Interval) (count : ℕ) → LawfulRanges ranges → 1 ≤ count → Lawful ranges count (cut ranges count (vec_items list.rules))
-list_lawful list ranges count lawful counted =
-    let long = list.rules.ok.0 in
-    let some = list.some in
-    let few = list.few in
-    lawful_cut ranges count (vec_items list.rules) lawful counted (omega arith) (omega arith) (sound_of list.rules list.run list.whole)
 
 -- the default alone, cut to lawful ranges
 pub default_cut : (ranges : List Interval) (count decision : ℕ) → LawfulRanges ranges → decision < count

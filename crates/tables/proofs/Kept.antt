@@ -1,57 +1,30 @@
--- What each change of a list of rules keeps: every clause runs forward, and the last rule is wide. Assumes nothing.
-use Rattle.std.proofs.Common.{◌≡◌, ℕ, suc, ◌+◌, ◌-◌, ◌<◌, ◌≤◌, Bool, true, List, [], ◌∷◌, length, get_or, take, drop, set, vec_items, vec_len, Vec, sym, refl, ap, ◌∙◌, subst, ⊎_elim, arith}
+-- What each edit of a list of rules keeps: every clause runs forward, and the last rule is wide. Assumes nothing.
+use Rattle.std.proofs.Common.{◌≡◌, ℕ, suc, ◌+◌, ◌-◌, ◌<◌, ◌≤◌, Bool, true, List, [], length, get_or, take, drop, set, vec_items, vec_len, Vec, sym, refl, ap, ◌∙◌, subst, ⊎_elim, arith}
 use Rattle.std.specs.declared.alloc.Global.{Global}
-use Rattle.std.specs.List.{insert, remove, swap, AllByRecursion}
-use Rattle.std.proofs.ByRecursion.{All-set, All-take, All-drop, All-append, All-get_or}
-use Rattle.std.proofs.lemmas.List.Edits.{length-insert, get_or-insert_above, length-remove, get_or-remove_above, length-swap, swap_is, swapped_from_swap}
+use Rattle.std.specs.Bool.{Decides}
+use Rattle.std.specs.List.{All, remove, swap}
+use Rattle.std.proofs.lemmas.Bool.Decides.{Decides-by_and}
+use Rattle.std.proofs.lemmas.List.Elements.{All-set, All-take, All-drop, All-append, All-get_or}
+use Rattle.std.proofs.lemmas.List.Edits.{length-remove, get_or-remove_above, length-swap, swap_is, swapped_from_swap}
 use Rattle.std.proofs.lemmas.List.{get_or-set_same, get_or-set_other, length-set}
-use Rattle.std.proofs.lemmas.Bool.{and_parts, and_from, cases_eq}
+use Rattle.std.proofs.lemmas.Bool.{cases_eq}
+use Rattle.tables.specs.declared.edit.Edit.{Edit}
 use Rattle.tables.specs.declared.edit.Edit.TheVariants.{Change, Swap, Delete}
+use Rattle.tables.specs.declared.rule_list.RuleList.{RuleList}
 use Rattle.rules.specs.declared.rule.Rule.{Rule}
-use Rattle.tables.specs.Edits.{edited, with_decision}
+use Rattle.tables.specs.Edits.{edited, with_decision, InPlace}
 use Rattle.rules.specs.Intervals.{every, wide}
-use Rattle.rules.specs.Rules.{rule_at, forward_rule, above_default}
+use Rattle.rules.specs.Rules.{rule_at, forward_rule}
 
-module _ {A : Type 0} (f : A → Bool) where
-  pub every_all : (xs : List A) → every f xs ≡ true → AllByRecursion (λ x. f x ≡ true) xs
-  every_all [] h = tt
-  every_all (x ∷ xs) h = let both = and_parts (f x) (every f xs) h in (both.0, every_all xs both.1)
-
-  pub all_every : (xs : List A) → AllByRecursion (λ x. f x ≡ true) xs → every f xs ≡ true
-  all_every [] h = refl
-  all_every (x ∷ xs) h = and_from (f x) (every f xs) h.0 (all_every xs h.1)
-
--- the test of a list's last rule
-abbrev pub wide_last : List Rule → Bool
-wide_last rules = every wide (rule_at rules (length rules)).clauses
-
-pub record Sound (rules : List Rule) : Type 0 where
-  pub forward : every forward_rule rules ≡ true
-  pub wide_end : wide_last rules ≡ true
+-- the test of a whole list, and the fact that it passes at each element
+pub every_decides : {A : Type 0} (f : A → Bool) (xs : List A) → Decides (every f xs) (All (λ x. f x ≡ true) xs)
+every_decides f xs = Decides-by_and f (λ x. f x ≡ true) (every f) (λ x. (λ h. h, λ h. h)) refl (λ x xs. refl) xs
 
 abbrev passes : Rule → Type 0
 passes rule = forward_rule rule ≡ true
 
 abbrev blank : Rule
 blank = record { clauses = []; decision = 0 }
-
--- the last rule of the new list has the clauses of the last rule of the old
-same_end : (xs ys : List Rule) → (rule_at ys (length ys)).clauses ≡ (rule_at xs (length xs)).clauses → wide_last xs ≡ true → wide_last ys ≡ true
-same_end xs ys e h = ap (every wide) e ∙ h
-
-pub add_keeps : (xs : List Rule) (y : Rule) → 1 ≤ length xs → forward_rule y ≡ true → Sound xs → Sound (above_default xs y)
-add_keeps xs y some run sound =
-    let i : ℕ = length xs - 1 in
-    let at : i ≤ length xs = omega arith in
-    let all = every_all forward_rule xs sound.forward in
-    let long = length-insert xs i y at in
-    let last : length (insert xs i y) - 1 ≡ i + 1 = omega arith in
-    let end : get_or (insert xs i y) (length (insert xs i y) - 1) blank ≡ get_or xs i blank
-    = ap (λ k. get_or (insert xs i y) k blank) last ∙ get_or-insert_above xs i y blank i (omega arith) at in
-    record {
-      forward = all_every forward_rule (insert xs i y) (All-append passes (take i xs) (y ∷ drop i xs) (All-take passes i xs all) (run, All-drop passes i xs all));
-      wide_end = same_end xs (insert xs i y) (ap (λ r. r.clauses) end) sound.wide_end;
-    }
 
 -- the last rule keeps its clauses under each edit
 pub change_end : (xs : List Rule) (place decision : ℕ) → 1 ≤ place → place ≤ length xs
@@ -93,44 +66,36 @@ delete_end xs place low high =
     let next : k + 1 ≡ length xs - 1 = omega arith in
     ap (λ m. (get_or ys m blank).clauses) last ∙ ap (λ r. r.clauses) (get_or-remove_above xs i blank k (omega arith) within ∙ ap (λ m. get_or xs m blank) next)
 
-pub change_keeps : (xs : List Rule) (place decision : ℕ) → 1 ≤ place → place ≤ length xs → Sound xs → Sound (edited xs (Change place decision))
-change_keeps xs place decision low high sound =
+all_kept : (xs : List Rule) (edit : Edit ℕ) → InPlace (length xs) edit → All passes xs → All passes (edited xs edit)
+all_kept xs (Change place decision) at all =
     let i : ℕ = place - 1 in
-    let y : Rule = with_decision (rule_at xs place) decision in
-    let all = every_all forward_rule xs sound.forward in
-    record {
-      forward = all_every forward_rule (set xs i y) (All-set passes xs i y (All-get_or passes xs i blank (omega arith) all) all);
-      wide_end = same_end xs (set xs i y) (change_end xs place decision low high) sound.wide_end;
-    }
-
-pub swap_keeps : (xs : List Rule) (first second : ℕ) → 1 ≤ first → first < second → second < length xs → Sound xs → Sound (edited xs (Swap first second))
-swap_keeps xs first second low order high sound =
+    All-set passes xs i (with_decision (rule_at xs place) decision) (All-get_or passes xs i blank (omega arith) all) all
+all_kept xs (Swap first second) at all =
     let i : ℕ = first - 1 in
     let j : ℕ = second - 1 in
     let iin : i < length xs = omega arith in
     let jin : j < length xs = omega arith in
-    let all = every_all forward_rule xs sound.forward in
-    let parts = All-set passes (set xs i (get_or xs j blank)) j (get_or xs i blank) (All-get_or passes xs i blank iin all) (All-set passes xs i (get_or xs j blank) (All-get_or passes xs j blank jin all) all) in
-    record {
-      forward = all_every forward_rule (swap xs i j) (subst (AllByRecursion passes) (swap_is xs i j blank iin jin) parts);
-      wide_end = same_end xs (swap xs i j) (swap_end xs first second low order high) sound.wide_end;
-    }
-
-pub delete_keeps : (xs : List Rule) (place : ℕ) → 1 ≤ place → place < length xs → Sound xs → Sound (edited xs (Delete place))
-delete_keeps xs place low high sound =
+    subst (All passes) (swap_is xs i j blank iin jin)
+    (All-set passes (set xs i (get_or xs j blank)) j (get_or xs i blank) (All-get_or passes xs i blank iin all) (All-set passes xs i (get_or xs j blank) (All-get_or passes xs j blank jin all) all))
+all_kept xs (Delete place) at all =
     let i : ℕ = place - 1 in
-    let all = every_all forward_rule xs sound.forward in
-    record {
-      forward = all_every forward_rule (remove xs i) (All-append passes (take i xs) (drop (suc i) xs) (All-take passes i xs all) (All-drop passes (suc i) xs all));
-      wide_end = same_end xs (remove xs i) (delete_end xs place low high) sound.wide_end;
-    }
+    All-append passes (take i xs) (drop (suc i) xs) (All-take passes i xs all) (All-drop passes (suc i) xs all)
 
--- the facts of a `RuleList` on its rules, from those of its list of rules
-pub ghosts : (v : Vec Rule Global) (rules : List Rule) → vec_items v ≡ rules → Sound rules
-    → (every forward_rule (vec_items v) ≡ true) × (every wide (rule_at (vec_items v) (vec_len v)).clauses ≡ true)
-ghosts v rules is sound =
-    (ap (every forward_rule) is ∙ sound.forward, ap (λ n. every wide (rule_at (vec_items v) n).clauses) v.ok.0 ∙ ap wide_last is ∙ sound.wide_end)
+end_kept : (xs : List Rule) (edit : Edit ℕ) → InPlace (length xs) edit → (rule_at (edited xs edit) (length (edited xs edit))).clauses ≡ (rule_at xs (length xs)).clauses
+end_kept xs (Change place decision) at = change_end xs place decision at.0 at.1
+end_kept xs (Swap first second) at = swap_end xs first second at.0 at.1 at.2
+end_kept xs (Delete place) at = delete_end xs place at.0 at.1
 
--- and back
-pub sound_of : (v : Vec Rule Global) → every forward_rule (vec_items v) ≡ true → every wide (rule_at (vec_items v) (vec_len v)).clauses ≡ true → Sound (vec_items v)
-sound_of v run whole = record { forward = run; wide_end = sym (ap (λ n. every wide (rule_at (vec_items v) n).clauses) v.ok.0) ∙ whole }
+-- the facts of a `RuleList` on its rules, once they are edited
+pub list_kept : (old : RuleList) (edit : Edit ℕ) (new : Vec Rule Global) → InPlace (vec_len old.rules) edit → vec_items new ≡ edited (vec_items old.rules) edit
+    → (every forward_rule (vec_items new) ≡ true) × (every wide (rule_at (vec_items new) (vec_len new)).clauses ≡ true)
+list_kept old edit new at is =
+    let xs = vec_items old.rules in
+    let inside = subst (λ n. InPlace n edit) old.rules.ok.0 at in (
+      ap (every forward_rule) is ∙ (every_decides forward_rule (edited xs edit)).1 (all_kept xs edit inside ((every_decides forward_rule xs).0 old.run)),
+      ap (λ n. every wide (rule_at (vec_items new) n).clauses) new.ok.0
+          ∙ ap (λ l. every wide (rule_at l (length l)).clauses) is
+          ∙ ap (every wide) (end_kept xs edit inside)
+          ∙ sym (ap (λ n. every wide (rule_at xs n).clauses) old.rules.ok.0)
+          ∙ old.whole,
+    )

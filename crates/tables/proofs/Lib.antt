@@ -4,4 +4,3 @@ pub mod Applying
 pub mod Cuts
 pub mod Declining
 pub mod Kept
-pub mod Telling

@@ -1,6 +1,6 @@
 -- The single edits: what each makes of a table, and when it is declined. Assumes nothing.
 -- Places are numbered from 1; the default stands at the last place.
-use Rattle.std.specs.Prelude.{◌≡◌, ℕ, ◌-◌, ◌<◌, Bool, not, ◌&&◌, List, length, IfOk, None, Option, Result, ◌==◌, nat_le, nat_lt, slice_set}
+use Rattle.std.specs.Prelude.{◌≡◌, ℕ, ◌-◌, ◌<◌, ◌≤◌, Bool, not, ◌&&◌, List, length, IfOk, None, Option, Result, ◌==◌, nat_le, nat_lt, slice_set}
 use Rattle.std.specs.List.{swap, remove}
 use Rattle.rules.specs.declared.decline.Decline.{Decline}
 use Rattle.rules.specs.declared.decline.Decline.TheVariants.{NoSuchPlace, DefaultStays, OutOfOrder, SameDecision}
@@ -54,6 +54,12 @@ abbrev pub Known : ℕ → Edit ℕ → Type 0
 Known count (Change place decision) = decision < count
 Known count (Swap first second) = Unit {0}
 Known count (Delete place) = Unit {0}
+
+-- a list of n rules takes the edit at its places: they are there, and the default, the last, is neither swapped nor deleted
+abbrev pub InPlace : ℕ → Edit ℕ → Type 0
+InPlace n (Change place decision) = (1 ≤ place) × (place ≤ n)
+InPlace n (Swap first second) = (1 ≤ first) × (first < second) × (second < n)
+InPlace n (Delete place) = (1 ≤ place) × (place < n)
 
 -- what an edit answers and leaves: declined, and the table as it was, or the edited table
 pub record Edited (rules : List Rule) (edit : Edit ℕ) (answer : Option Decline) (after : List Rule) : Type 0 where

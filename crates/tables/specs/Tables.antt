@@ -6,8 +6,9 @@ use Rattle.rules.specs.declared.rule.Rule.{Rule}
 use Rattle.tables.specs.declared.table.Table.{Table}
 use Rattle.rules.specs.Rules.{cut}
 
-abbrev pub draft_rules : {Q D : Type 0} → List Interval → ℕ → Draft Q D → List Rule
-draft_rules ranges count draft = cut ranges count (vec_items draft.list.rules)
-
 abbrev pub table_rules : {Q D : Type 0} → List Interval → ℕ → Table Q D → List Rule
 table_rules ranges count table = cut ranges count (vec_items table.list.rules)
+
+-- a draft is a table in the making
+abbrev pub draft_rules : {Q D : Type 0} → List Interval → ℕ → Draft Q D → List Rule
+draft_rules ranges count draft = table_rules ranges count draft.table

@@ -1,12 +1,12 @@
 // A draft: a table in the making. It starts with its default, takes rules above it, and is used up when it is closed.
-ghost use Rattle.std.specs.Prelude.{◌≡◌, ◌≤◌, true, [], ◌∷◌, length, take, IfOk, IfErr, OnErr, nat_le};
-ghost use Rattle.tables.specs.Adding.{Added, clauses_decline, given_rule};
+ghost use Rattle.std.specs.Prelude.{◌≡◌, ◌≤◌, true, [], ◌∷◌, length, take, IfOk, IfErr, OnErr};
+ghost use Rattle.tables.specs.Adding.{Added, clauses_decline};
 ghost use Rattle.rules.specs.Declines.{declined};
 ghost use Rattle.rules.specs.Intervals.{every, forward};
 ghost use Rattle.rules.specs.Rules.{Lawful};
 ghost use Rattle.tables.specs.Tables.{draft_rules, table_rules};
 
-use crate::rule_list::RuleList;
+use crate::rule_list::{MAX_RULES, RuleList};
 use crate::table::Table;
 use rules::decline::Decline;
 use rules::interval::Interval;
@@ -18,28 +18,17 @@ use std::marker::PhantomData;
 
 #[derive(Drop)]
 pub struct Draft<Q, D> {
-    list: RuleList,
-    kinds: PhantomData<(Q, D)>,
+    table: Table<Q, D>,
 }
 
-// A draft holds 63 rules besides its default.
-fn is_full(count: usize) -> bool
-    ensures { result ≡ nat_le 64 count }
+// Declined field by field. Clauses past the kind's fields are not asked.
+fn check_clauses(ranges: &[Interval], clauses: &[Interval]) -> Result<(), Decline>
+    ensures { declined result ≡ clauses_decline ranges.now clauses.now }
 {
-    count >= 64
-}
-
-// How a rule's clauses are declined, field by field.
-fn clauses_decline(ranges: &[Interval], clauses: &[Interval]) -> Option<Decline>
-    requires { length ranges.now ≤ length clauses.now }
-    ensures { result ≡ clauses_decline ranges.now clauses.now }
-{
-    for k in 0..ranges.len() {
-        if let Some(decline) = clauses[k].decline_in(&ranges[k]) {
-            return Some(decline);
-        }
+    for (range, clause) in ranges.iter().zip(clauses) {
+        clause.check_in(range)?;
     }
-    None
+    Ok(())
 }
 
 // The clauses of the fields that there are, and none that runs backward behind them.
@@ -50,9 +39,7 @@ fn asked(clauses: &[Interval], fields: usize) -> Clauses
     ensures run { every forward result ≡ true }
 {
     let mut front = [Interval { lower: 0, upper: 0 }; 6];
-    for k in 0..fields {
-        front[k] = clauses[k];
-    }
+    front[..fields].copy_from_slice(&clauses[..fields]);
     front
 }
 
@@ -63,13 +50,13 @@ impl<Q: RequestKind, D: DecisionKind> Draft<Q, D> {
         ensures rules { IfOk result (λ draft. draft_rules Q.RequestKind.ranges D.DecisionKind.count draft ≡ record { clauses = Q.RequestKind.ranges; decision = D.DecisionKind.number default } ∷ []) }
         ensures wants { IfErr result (λ decline. decline ≡ Decline.NoMemory) }
     {
-        match RuleList::new(heap, Limits::of::<Q, D>(), default.number()) {
-            Ok(list) => Ok(Draft {
-                list,
-                kinds: PhantomData,
-            }),
-            Err(_) => Err(Decline::NoMemory),
-        }
+        let list = RuleList::new(heap, default.number())?;
+        let table = Table {
+            limits: Limits::of::<Q, D>(),
+            list,
+            kinds: PhantomData,
+        };
+        Ok(Draft { table })
     }
 
     // Adds a rule directly above the default. Clauses past the kind's fields are not asked.
@@ -78,19 +65,16 @@ impl<Q: RequestKind, D: DecisionKind> Draft<Q, D> {
         ensures added { Added Q.RequestKind.ranges (draft_rules Q.RequestKind.ranges D.DecisionKind.count self.old) clauses (D.DecisionKind.number decision) (declined result) (draft_rules Q.RequestKind.ranges D.DecisionKind.count self.new) }
         ensures same { OnErr result (self.new ≡ self.old) }
     {
-        if is_full(self.list.rules.len()) {
+        if self.table.count() >= MAX_RULES {
             return Err(Decline::Full);
         }
         let own = Limits::of::<Q, D>();
         let ranges = own.ranges();
-        if let Some(decline) = clauses_decline(ranges, &clauses) {
-            return Err(decline);
-        }
-        let rule = Rule {
+        check_clauses(ranges, &clauses)?;
+        self.table.list.add(Rule {
             clauses: asked(&clauses, ranges.len()),
             decision: decision.number(),
-        };
-        self.list.add(rule);
+        });
         Ok(())
     }
 
@@ -99,7 +83,7 @@ impl<Q: RequestKind, D: DecisionKind> Draft<Q, D> {
         ensures rules { table_rules Q.RequestKind.ranges D.DecisionKind.count result ≡ draft_rules Q.RequestKind.ranges D.DecisionKind.count self }
         ensures lawful { Lawful Q.RequestKind.ranges D.DecisionKind.count (table_rules Q.RequestKind.ranges D.DecisionKind.count result) }
     {
-        let Draft { list, kinds } = self;
-        Table { list, kinds }
+        let Draft { table } = self;
+        table
     }
 }

@@ -1,20 +1,21 @@
-// The rules of a draft or a table, the default last, with a copy of the limits that they were made for.
+// The rules of a draft or a table, the default last.
 // Memory for 64 rules is claimed when the list is made, so that no later call can want it.
 // The default is kept with the widest intervals there are: cut to any ranges, it is whole.
-ghost use Rattle.std.specs.Prelude.{◌≡◌, ◌+◌, ◌<◌, ◌≤◌, true, [], ◌∷◌, IfOk, vec_len, vec_capacity};
+ghost use Rattle.std.specs.Prelude.{◌≡◌, ◌<◌, ◌≤◌, true, [], ◌∷◌, IfOk, vec_len, vec_capacity};
 ghost use Rattle.rules.specs.Intervals.{every, wide};
-ghost use Rattle.tables.specs.Edits.{edited};
+ghost use Rattle.tables.specs.Edits.{edited, InPlace};
 ghost use Rattle.rules.specs.Rules.{rule_at, forward_rule, above_default, default_rule};
 
 use crate::edit::Edit;
 use rules::interval::Interval;
-use rules::limits::Limits;
 use rules::rule::Rule;
 use std::alloc::{AllocError, Global};
 
+// The most rules that a list has, the default included.
+pub(crate) const MAX_RULES: usize = 64;
+
 #[derive(Drop)]
 pub(crate) struct RuleList {
-    pub(crate) limits: Limits,
     pub(crate) rules: Vec<Rule>,
     ghost some: { 1 ≤ vec_len rules },
     ghost few: { vec_len rules ≤ 64 },
@@ -25,50 +26,58 @@ pub(crate) struct RuleList {
 
 impl RuleList {
     // The default alone.
-    pub(crate) fn new(heap: Global, limits: Limits, decision: u8) -> Result<RuleList, AllocError>
-        ensures { IfOk result (λ l. (l.limits ≡ limits) × (l.rules.items ≡ default_rule decision ∷ [])) }
+    pub(crate) fn new(heap: Global, decision: u8) -> Result<RuleList, AllocError>
+        ensures { IfOk result (λ l. l.rules.items ≡ default_rule decision ∷ []) }
     {
-        let widest = Interval::new(0, 4294967295);
-        let mut rules = Vec::with_capacity(heap, 64)?;
+        let widest = Interval::new(0, u32::MAX);
+        let mut rules = Vec::with_capacity(heap, MAX_RULES)?;
         rules.push_reserved(Rule {
             clauses: [widest; 6],
             decision,
         });
-        Ok(RuleList { limits, rules })
+        Ok(RuleList { rules })
     }
 
     // One rule more, directly above the default.
     pub(crate) fn add(&mut self, rule: Rule)
         requires room { vec_len self.old.rules < 64 }
         requires run { forward_rule rule ≡ true }
-        ensures limits { self.new.limits ≡ self.old.limits }
-        ensures rules { self.new.rules.items ≡ above_default self.old.rules.items rule }
+        ensures { self.new.rules.items ≡ above_default self.old.rules.items rule }
     {
         let last = self.rules.len() - 1;
-        let _ = self.rules.insert(last, rule);
+        self.rules.insert(last, rule).unwrap();
     }
 
     pub(crate) fn change(&mut self, place: usize, decision: u8)
         requires { (1 ≤ place) × (place ≤ vec_len self.old.rules) }
-        ensures limits { self.new.limits ≡ self.old.limits }
-        ensures rules { self.new.rules.items ≡ edited self.old.rules.items (Edit.Change place decision) }
+        ensures { self.new.rules.items ≡ edited self.old.rules.items (Edit.Change place decision) }
     {
         self.rules[place - 1].decision = decision;
     }
 
-    pub(crate) fn swap(&mut self, first: usize, second: usize)
+    fn swap(&mut self, first: usize, second: usize)
         requires { (1 ≤ first) × (first < second) × (second < vec_len self.old.rules) }
-        ensures limits { self.new.limits ≡ self.old.limits }
-        ensures rules { self.new.rules.items ≡ edited self.old.rules.items (Edit.Swap first second) }
+        ensures { self.new.rules.items ≡ edited self.old.rules.items (Edit.Swap first second) }
     {
         self.rules.swap(first - 1, second - 1);
     }
 
-    pub(crate) fn delete(&mut self, place: usize)
+    fn delete(&mut self, place: usize)
         requires { (1 ≤ place) × (place < vec_len self.old.rules) }
-        ensures limits { self.new.limits ≡ self.old.limits }
-        ensures rules { self.new.rules.items ≡ edited self.old.rules.items (Edit.Delete place) }
+        ensures { self.new.rules.items ≡ edited self.old.rules.items (Edit.Delete place) }
     {
-        let _ = self.rules.remove(place - 1);
+        self.rules.remove(place - 1);
+    }
+
+    // An edit at places where the list takes it.
+    pub(crate) fn apply(&mut self, edit: Edit<u8>)
+        requires { InPlace (vec_len self.old.rules) edit }
+        ensures { self.new.rules.items ≡ edited self.old.rules.items edit }
+    {
+        match edit {
+            Edit::Change { place, decision } => self.change(place, decision),
+            Edit::Swap { first, second } => self.swap(first, second),
+            Edit::Delete { place } => self.delete(place),
+        }
     }
 }

@@ -7,15 +7,16 @@ ghost use Rattle.rules.specs.Rules.{Lawful};
 ghost use Rattle.tables.specs.Tables.{table_rules};
 
 use crate::edit::Edit;
-use crate::rule_edits::has_place;
 use crate::rule_list::RuleList;
 use rules::decline::Decline;
 use rules::kind::{DecisionKind, RequestKind};
+use rules::limits::Limits;
 use rules::rule::Rule;
 use std::marker::PhantomData;
 
 #[derive(Drop)]
 pub struct Table<Q, D> {
+    pub(crate) limits: Limits,
     pub(crate) list: RuleList,
     pub(crate) kinds: PhantomData<(Q, D)>,
 }
@@ -33,17 +34,18 @@ impl<Q: RequestKind, D: DecisionKind> Table<Q, D> {
     pub fn decision_at(&self, place: usize) -> Result<D, Decline>
         ensures { Told (table_rules Q.RequestKind.ranges D.DecisionKind.count self.now) place D.DecisionKind.number result }
     {
-        if !has_place(self.list.rules.len(), place) {
-            return Err(Decline::NoSuchPlace);
-        }
-        D::make(u32::from(self.list.decision_number(D::decision_count(), place)))
+        let number = self
+            .list
+            .decision_number(D::decision_count(), place)
+            .ok_or(Decline::NoSuchPlace)?;
+        D::make(u32::from(number))
     }
 
-    // How an edit would be declined, if it would.
-    pub fn edit_decline(&self, edit: &Edit<D>) -> Option<Decline>
-        ensures { result ≡ edit_decline (table_rules Q.RequestKind.ranges D.DecisionKind.count self.now) (plain_edit D.DecisionKind.number edit.now) }
+    // Declined as the edit would be.
+    pub fn check_edit(&self, edit: &Edit<D>) -> Result<(), Decline>
+        ensures { declined result ≡ edit_decline (table_rules Q.RequestKind.ranges D.DecisionKind.count self.now) (plain_edit D.DecisionKind.number edit.now) }
     {
-        self.list.edit_decline(D::decision_count(), edit.plain())
+        self.list.check_edit(D::decision_count(), edit.plain())
     }
 
     // Makes the edit, or declines it and leaves the table as it is.

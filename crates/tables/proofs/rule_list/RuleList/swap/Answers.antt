@@ -1,13 +1,12 @@
--- The list stays sound under an exchange of two rules above the default.
-use Rattle.std.proofs.Common.{vec_items, arith}
-use Rattle.tables.proofs.Kept.{ghosts, sound_of, swap_keeps}
+-- The list keeps its facts under the edit.
+use Rattle.std.proofs.Common.{arith}
+use Rattle.tables.specs.declared.edit.Edit.TheVariants.{Swap}
+use Rattle.tables.proofs.Kept.{list_kept}
 use Rattle.tables.proofs.rule_list.RuleList.swap.Goals as goal
 
 pub invariant_of-self : goal.invariant_of-self
 invariant_of-self c =
     let old = c.args.self.now in
-    let long = old.rules.ok.0 in
-    let sound = sound_of old.rules old.run old.whole in
     let pre = c.requires in
-    let kept = ghosts c.swap.new.self _ c.swap.ensures.items (swap_keeps (vec_items old.rules) c.args.first c.args.second (omega arith) (omega arith) (omega arith) sound) in
+    let kept = list_kept old (Swap c.args.first c.args.second) c.swap.new.self pre c.swap.ensures.items in
     record { some = omega arith; few = omega arith; room = omega arith; run = kept.0; whole = kept.1 }

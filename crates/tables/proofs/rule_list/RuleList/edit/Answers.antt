@@ -1,0 +1,23 @@
+-- An edit that is not declined on the rules as cut is in place on the list, and cutting and editing may change places.
+use Rattle.std.proofs.Common.{[], vec_items, sym, ap, ◌∙◌, subst}
+use Rattle.tables.specs.Edits.{InPlace}
+use Rattle.rules.specs.Rules.{cut}
+use Rattle.tables.proofs.Applying.{taken_in_place, edited_cut}
+use Rattle.tables.proofs.Cuts.{length_cut}
+use Rattle.tables.proofs.rule_list.RuleList.edit.Goals as goal
+
+pub apply-requires : goal.apply-requires
+apply-requires c =
+    let list = c.args.self.now.rules in
+    subst (λ n. InPlace n c.args.edit) (length_cut [] c.args.decisions (vec_items list) ∙ sym list.ok.0)
+    (taken_in_place (cut [] c.args.decisions (vec_items list)) c.args.edit (sym (c.in_ok-check_edit.ensures [])))
+
+pub returns : goal.returns
+returns c ranges =
+    let rules = vec_items c.args.self.now.rules in
+    let taken = c.in_ok-check_edit.ensures ranges in
+    let at = subst (λ n. InPlace n c.args.edit) (length_cut ranges c.args.decisions rules) (taken_in_place (cut ranges c.args.decisions rules) c.args.edit (sym taken)) in
+    record {
+      declines = taken;
+      leaves = ap (cut ranges c.args.decisions) c.apply.ensures ∙ edited_cut ranges c.args.decisions rules c.args.edit at c.requires;
+    }
