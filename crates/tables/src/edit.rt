@@ -5,7 +5,7 @@ ghost use Rattle.tables.specs.Edits.{plain_edit};
 use rules::kind::DecisionKind;
 use std::fmt;
 
-#[derive(Clone, Copy, Drop)]
+#[derive(Clone, Copy, PartialEq, Eq, Debug, Drop)]
 pub enum Edit<D> {
     // Gives the rule at a place another decision.
     Change { place: usize, decision: D },
@@ -15,12 +15,12 @@ pub enum Edit<D> {
     Delete { place: usize },
 }
 
-impl<D: DecisionKind> Edit<D> {
-    // The same edit with the decision's number in place of the decision.
-    pub fn plain(&self) -> Edit<u8>
-        ensures { result ≡ plain_edit D.DecisionKind.number self.now }
-    {
-        match self {
+// The same edit with the decision's number in place of the decision.
+impl<D: DecisionKind> From<&Edit<D>> for Edit<u8> {
+    ghost from_gives = { λ edit plain. plain ≡ plain_edit D.DecisionKind.number edit.now };
+
+    fn from(edit: &Edit<D>) -> Edit<u8> {
+        match edit {
             Edit::Change { place, decision } => Edit::Change {
                 place: *place,
                 decision: decision.number(),

@@ -45,14 +45,14 @@ impl<Q: RequestKind, D: DecisionKind> Table<Q, D> {
     pub fn check_edit(&self, edit: &Edit<D>) -> Result<(), Decline>
         ensures { declined result ≡ edit_decline (table_rules Q.RequestKind.ranges D.DecisionKind.count self.now) (plain_edit D.DecisionKind.number edit.now) }
     {
-        self.list.check_edit(D::decision_count(), edit.plain())
+        self.list.check_edit(D::decision_count(), Edit::from(edit))
     }
 
     // Makes the edit, or declines it and leaves the table as it is.
     pub fn edit(&mut self, edit: &Edit<D>) -> Result<(), Decline>
         ensures { Edited (table_rules Q.RequestKind.ranges D.DecisionKind.count self.old) (plain_edit D.DecisionKind.number edit.now) (declined result) (table_rules Q.RequestKind.ranges D.DecisionKind.count self.new) }
     {
-        self.list.edit(D::decision_count(), edit.plain())
+        self.list.edit(D::decision_count(), Edit::from(edit))
     }
 
     // The rules as they are kept, not yet cut to the kinds' own limits.
