@@ -1,6 +1,7 @@
 -- Adding a rule: the checks of its clauses one after the other, and that a rule in range is not cut. Assumes nothing.
 use Rattle.std.proofs.Common.{◌≡◌, ℕ, ◌≤◌, true, not, List, [], ◌∷◌, ◌++◌, length, take, drop, replicate, Some, None, Option, refl, ap, ◌∙◌, ◌⊎◌, inl, inr, le_of_suc-le-suc, not-suc-le-zero, arith}
 use Rattle.std.proofs.lemmas.List.Elements.{All-append, All-drop, All-replicate}
+use Rattle.std.proofs.lemmas.Bool.Decides.{nat_tests}
 use Rattle.std.proofs.lemmas.Bool.{not-false, and_from}
 use Rattle.rules.specs.declared.decline.Decline.{Decline}
 use Rattle.rules.specs.declared.decline.Decline.TheVariants.{OutsideRange, LowerAboveUpper}
@@ -20,14 +21,9 @@ or_else_none (Some d) later h = let z : ◌≡◌ {A = ℕ} 0 1 = cc in absurd (
 
 clause_taken : (range clause : Interval) → clause_decline range clause ≡ None → (cut_interval range clause ≡ clause) × (forward clause ≡ true)
 clause_taken range clause h =
-    let a = unless_none (not (inside range clause.lower)) OutsideRange _ h in
-    let b = unless_none (not (inside range clause.upper)) OutsideRange _ a.1 in
-    let e = unless_none (not (forward clause)) LowerAboveUpper None b.1 in
-    let low = inside_true range clause.lower (not-false (inside range clause.lower) a.0) in
-    let high = inside_true range clause.upper (not-false (inside range clause.upper) b.0) in
-    let lower : nearest range clause.lower ≡ clause.lower = omega arith in
-    let upper : nearest range clause.upper ≡ clause.upper = omega arith in
-    (λ k. from_to (lower k) (upper k), not-false (forward clause) e.0)
+    let lower : nearest range clause.lower ≡ clause.lower = grind (arith, nat_tests) in
+    let upper : nearest range clause.upper ≡ clause.upper = grind (arith, nat_tests) in
+    (λ k. from_to (lower k) (upper k), grind (arith, nat_tests))
 
 -- clauses that are not declined run forward
 pub taken_forward : (ranges clauses : List Interval) → length ranges ≤ length clauses → clauses_decline ranges clauses ≡ None → every forward (take (length ranges) clauses) ≡ true
@@ -42,11 +38,7 @@ pub taken_cut : (ranges clauses kept : List Interval) → length ranges ≤ leng
     → take (length ranges) kept ≡ take (length ranges) clauses → cut_clauses ranges kept ≡ take (length ranges) clauses
 taken_cut [] clauses kept le h same = refl
 taken_cut (r ∷ rs) [] kept le h same = absurd (not-suc-le-zero le)
-taken_cut (r ∷ rs) (c ∷ cs) [] le h same = let z : ◌≡◌ {A = ℕ} 0 1 = ap zero_if_empty same in absurd (omega arith)
-  where
-    zero_if_empty : List Interval → ℕ
-    zero_if_empty [] = 0
-    zero_if_empty (x ∷ xs) = 1
+taken_cut (r ∷ rs) (c ∷ cs) [] le h same = let z : ◌≡◌ {A = ℕ} 0 1 = cc in absurd (omega arith)
 taken_cut (r ∷ rs) (c ∷ cs) (k ∷ ks) le h same =
     let both = or_else_none (clause_decline r c) (clauses_decline rs cs) h in
     let first : k ≡ c = cc in

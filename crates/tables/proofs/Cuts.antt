@@ -24,17 +24,6 @@ module _ (ranges : List Interval) (count : ℕ) where
   pub rule_at_cut : (rules : List Rule) (place : ℕ) → 1 ≤ place → place ≤ length rules → rule_at (cut ranges count rules) place ≡ cut_rule ranges count (rule_at rules place)
   rule_at_cut rules place low high = get_or-map (cut_rule ranges count) rules (place - 1) blank blank (omega arith)
 
-  -- the decision at any place, also where there is no rule
-  pub decision_at_cut : (rules : List Rule) (place : ℕ) → (rule_at (cut ranges count rules) place).decision ≡ min (rule_at rules place).decision (count - 1)
-  decision_at_cut rules place =
-      ⊎_elim
-      (λ lt. ap (λ r. r.decision) (get_or-map (cut_rule ranges count) rules (place - 1) blank blank lt))
-      (λ ge. let long = length_cut rules in
-      ap (λ r. r.decision) (get_or_past (cut ranges count rules) (place - 1) blank (omega arith))
-      ∙ omega arith
-      ∙ ap (λ r. min r.decision (count - 1)) (sym (get_or_past rules (place - 1) blank ge)))
-      (cases_lt (place - 1) (length rules))
-
   pub cut_change : (rules : List Rule) (place decision : ℕ) → 1 ≤ place → place ≤ length rules → decision < count
       → cut ranges count (edited rules (Change place decision)) ≡ edited (cut ranges count rules) (Change place decision)
   cut_change rules place decision low high known =
@@ -50,31 +39,17 @@ module _ (ranges : List Interval) (count : ℕ) where
   map_exchanged [] i j hi hj = refl
   map_exchanged (x ∷ xs) i j hi hj =
       let f = cut_rule ranges count in
-      let at_i = get_or-map f (x ∷ xs) i x (f x) hi in
-      let at_j = get_or-map f (x ∷ xs) j x (f x) hj in
-      map-set f (set (x ∷ xs) i (get_or (x ∷ xs) j x)) j (get_or (x ∷ xs) i x)
-      ∙ ap (λ l. set l j (f (get_or (x ∷ xs) i x))) (map-set f (x ∷ xs) i (get_or (x ∷ xs) j x))
-      ∙ ap (λ y. set (set (map f (x ∷ xs)) i (f (get_or (x ∷ xs) j x))) j y) (sym at_i)
-      ∙ ap (λ y. set (set (map f (x ∷ xs)) i y) j (get_or (map f (x ∷ xs)) i (f x))) (sym at_j)
+      rw (get_or-map f (x ∷ xs) i x (f x) hi, get_or-map f (x ∷ xs) j x (f x) hj) (simp map-set refl)
 
   pub cut_swap : (rules : List Rule) (first second : ℕ) → 1 ≤ first → first < second → second < length rules
       → cut ranges count (edited rules (Swap first second)) ≡ edited (cut ranges count rules) (Swap first second)
   cut_swap rules first second low order high = map_exchanged rules (first - 1) (second - 1) (omega arith) (omega arith)
 
   pub cut_delete : (rules : List Rule) (place : ℕ) → cut ranges count (edited rules (Delete place)) ≡ edited (cut ranges count rules) (Delete place)
-  cut_delete rules place =
-      let f = cut_rule ranges count in
-      let i = place - 1 in
-      map-append f (take i rules) (drop (suc i) rules) ∙ ap (λ l. l ++ map f (drop (suc i) rules)) (sym (take-map f i rules)) ∙ ap (λ l. take i (map f rules) ++ l) (sym (drop-map f (suc i) rules))
+  cut_delete rules place = simp (map-append, take-map, drop-map) refl
 
   pub cut_add : (rules : List Rule) (rule : Rule) → cut ranges count (above_default rules rule) ≡ above_default (cut ranges count rules) (cut_rule ranges count rule)
-  cut_add rules rule =
-      let f = cut_rule ranges count in
-      let i = length rules - 1 in
-      map-append f (take i rules) (rule ∷ drop i rules)
-      ∙ ap (λ l. l ++ (f rule ∷ map f (drop i rules))) (sym (take-map f i rules))
-      ∙ ap (λ l. take i (map f rules) ++ (f rule ∷ l)) (sym (drop-map f i rules))
-      ∙ ap (λ n. insert (map f rules) (n - 1) (f rule)) (sym (length_cut rules))
+  cut_add rules rule = simp (map-append, take-map, drop-map, length-map) refl
 
 -- cut to any lawful ranges, wide clauses are the ranges themselves
 pub wide_cut : (ranges clauses : List Interval) → AllByRecursion LawfulRange ranges → every wide clauses ≡ true → cut_clauses ranges clauses ≡ ranges

@@ -1,5 +1,6 @@
 -- What the checks of an edit tell. Assumes nothing.
 use Rattle.std.proofs.Common.{◌≡◌, ℕ, ◌<◌, ◌≤◌, Bool, true, false, not, ◌&&◌, eqb, ltb, leb, None, Option, refl, arith}
+use Rattle.std.proofs.lemmas.Bool.Decides.{nat_tests}
 use Rattle.std.proofs.lemmas.Bool.{and_parts, leb-true, ltb-true, eqb-false, not-false}
 use Rattle.rules.specs.declared.decline.Decline.{Decline}
 use Rattle.rules.specs.declared.decline.Decline.TheVariants.{NoSuchPlace, OutOfOrder, DefaultStays}
@@ -15,25 +16,10 @@ unless_none true d later h = let z : ◌≡◌ {A = ℕ} 0 1 = cc in absurd (ome
 unless_none false d later h = (refl, h)
 
 pub change_taken : (n place present wanted : ℕ) → change_decline n place present wanted ≡ None → (1 ≤ place) × (place ≤ n)
-change_taken n place present wanted h =
-    placed_parts n place (not-false (placed n place) (unless_none (not (placed n place)) NoSuchPlace _ h).0)
+change_taken n place present wanted h = (grind (arith, nat_tests), grind (arith, nat_tests))
 
 pub swap_taken : (n first second : ℕ) → swap_decline n first second ≡ None → (1 ≤ first) × (first < second) × (second < n)
-swap_taken n first second h =
-    let a = unless_none (not (placed n first && placed n second)) NoSuchPlace _ h in
-    let both = and_parts (placed n first) (placed n second) (not-false (placed n first && placed n second) a.0) in
-    let i = placed_parts n first both.0 in
-    let j = placed_parts n second both.1 in
-    let b = unless_none (not (ltb first second)) OutOfOrder _ a.1 in
-    let order = ltb-true first second (not-false (ltb first second) b.0) in
-    let e = unless_none (eqb second n) DefaultStays None b.1 in
-    let below : second < n = omega (arith, eqb-false second n e.0) in
-    (i.0, order, below)
+swap_taken n first second h = (grind (arith, nat_tests), grind (arith, nat_tests), grind (arith, nat_tests))
 
 pub delete_taken : (n place : ℕ) → delete_decline n place ≡ None → (1 ≤ place) × (place < n)
-delete_taken n place h =
-    let a = unless_none (not (placed n place)) NoSuchPlace _ h in
-    let i = placed_parts n place (not-false (placed n place) a.0) in
-    let e = unless_none (eqb place n) DefaultStays None a.1 in
-    let below : place < n = omega (arith, eqb-false place n e.0) in
-    (i.0, below)
+delete_taken n place h = (grind (arith, nat_tests), grind (arith, nat_tests))

@@ -46,6 +46,7 @@ fn asked(clauses: &[Interval], fields: usize) -> Clauses
 impl<Q: RequestKind, D: DecisionKind> Draft<Q, D> {
     // A draft of the default alone, which matches every request. All the memory that it will need is claimed here:
     // declined 99 where there is not enough.
+    #[tactic(auto, using(crate::proofs::Cuts::default_cut))]
     pub fn new(heap: Global, default: D) -> Result<Draft<Q, D>, Decline>
         ensures rules { IfOk result (λ draft. draft_rules Q.RequestKind.ranges D.DecisionKind.count draft ≡ record { clauses = Q.RequestKind.ranges; decision = D.DecisionKind.number default } ∷ []) }
         ensures wants { IfErr result (λ decline. decline ≡ Decline.NoMemory) }
