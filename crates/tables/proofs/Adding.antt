@@ -11,13 +11,12 @@ use Rattle.tables.specs.Adding.{clauses_decline}
 use Rattle.rules.specs.Declines.{or_else}
 use Rattle.rules.specs.Intervals.{inside, forward, every, nearest, cut_interval, from_to}
 use Rattle.rules.specs.Rules.{cut_clauses}
-use Rattle.tables.proofs.Declining.{unless_none}
 use Rattle.rules.proofs.Insides.{inside_true}
 use Rattle.tables.proofs.Kept.{every_decides}
 
 or_else_none : (o later : Option Decline) → or_else o later ≡ None → (o ≡ None) × (later ≡ None)
 or_else_none None later h = (refl, h)
-or_else_none (Some d) later h = let z : ◌≡◌ {A = ℕ} 0 1 = cc in absurd (omega arith)
+or_else_none (Some d) later h = (cc, cc)
 
 clause_taken : (range clause : Interval) → clause_decline range clause ≡ None → (cut_interval range clause ≡ clause) × (forward clause ≡ true)
 clause_taken range clause h =
@@ -38,7 +37,7 @@ pub taken_cut : (ranges clauses kept : List Interval) → length ranges ≤ leng
     → take (length ranges) kept ≡ take (length ranges) clauses → cut_clauses ranges kept ≡ take (length ranges) clauses
 taken_cut [] clauses kept le h same = refl
 taken_cut (r ∷ rs) [] kept le h same = absurd (not-suc-le-zero le)
-taken_cut (r ∷ rs) (c ∷ cs) [] le h same = let z : ◌≡◌ {A = ℕ} 0 1 = cc in absurd (omega arith)
+taken_cut (r ∷ rs) (c ∷ cs) [] le h same = cc
 taken_cut (r ∷ rs) (c ∷ cs) (k ∷ ks) le h same =
     let both = or_else_none (clause_decline r c) (clauses_decline rs cs) h in
     let first : k ≡ c = cc in
@@ -57,5 +56,5 @@ padded_forward clauses fields run =
 pub all_checked : (ranges clauses : List Interval) → (ranges ≡ []) ⊎ (clauses ≡ []) → clauses_decline ranges clauses ≡ None
 all_checked [] clauses h = refl
 all_checked (r ∷ rs) [] h = refl
-all_checked (r ∷ rs) (c ∷ cs) (inl e) = let z : ◌≡◌ {A = ℕ} 0 1 = cc in absurd (omega arith)
-all_checked (r ∷ rs) (c ∷ cs) (inr e) = let z : ◌≡◌ {A = ℕ} 0 1 = cc in absurd (omega arith)
+all_checked (r ∷ rs) (c ∷ cs) (inl e) = cc
+all_checked (r ∷ rs) (c ∷ cs) (inr e) = cc

@@ -3,12 +3,14 @@ use Rattle.std.proofs.Common.{◌≡◌, ℕ, suc, ◌-◌, ◌<◌, ◌≤◌, 
 use Rattle.std.specs.List.{insert, swap, AllByRecursion}
 use Rattle.std.proofs.lemmas.List.Elements.{All-map, All-weaker, recursion_from_All}
 use Rattle.std.proofs.lemmas.List.{map-set, map-append, take-map, drop-map, get_or-map, length-map, get_or_past}
+use Rattle.std.proofs.lemmas.Bool.Decides.{nat_tests}
 use Rattle.std.proofs.lemmas.Bool.{and_parts, leb-true, eqb-true, cases_lt}
+use Rattle.tables.specs.declared.edit.Edit.{Edit}
 use Rattle.tables.specs.declared.edit.Edit.TheVariants.{Change, Swap, Delete}
 use Rattle.rules.specs.declared.interval.Interval.{Interval}
 use Rattle.rules.specs.declared.rule.Rule.{Rule}
 use Rattle.tables.specs.declared.rule_list.RuleList.{RuleList}
-use Rattle.tables.specs.Edits.{edited, with_decision}
+use Rattle.tables.specs.Edits.{edited, with_decision, InPlace, Known}
 use Rattle.rules.specs.Intervals.{every, wide, forward, Forward, nearest, cut_interval, from_to}
 use Rattle.rules.specs.Kinds.{LawfulRange, LawfulRanges}
 use Rattle.rules.specs.Rules.{rule_at, forward_rule, above_default, default_rule, cut_clauses, cut_rule, cut, Lawful, LawfulRule, LawfulClause, LawfulClauses}
@@ -24,29 +26,18 @@ module _ (ranges : List Interval) (count : ℕ) where
   pub rule_at_cut : (rules : List Rule) (place : ℕ) → 1 ≤ place → place ≤ length rules → rule_at (cut ranges count rules) place ≡ cut_rule ranges count (rule_at rules place)
   rule_at_cut rules place low high = get_or-map (cut_rule ranges count) rules (place - 1) blank blank (omega arith)
 
-  pub cut_change : (rules : List Rule) (place decision : ℕ) → 1 ≤ place → place ≤ length rules → decision < count
-      → cut ranges count (edited rules (Change place decision)) ≡ edited (cut ranges count rules) (Change place decision)
-  cut_change rules place decision low high known =
-      let f = cut_rule ranges count in
-      let i = place - 1 in
-      let least : min decision (count - 1) ≡ decision = omega arith in
-      let clauses = ap (λ r. r.clauses) (sym (rule_at_cut rules place low high)) in
-      map-set f rules i (with_decision (rule_at rules place) decision)
-      ∙ ap (λ d. set (map f rules) i (record { clauses = cut_clauses ranges (rule_at rules place).clauses; decision = d })) least
-      ∙ ap (λ cs. set (map f rules) i (record { clauses = cs; decision = decision })) clauses
-
-  map_exchanged : (rules : List Rule) (i j : ℕ) → i < length rules → j < length rules → map (cut_rule ranges count) (swap rules i j) ≡ swap (map (cut_rule ranges count) rules) i j
-  map_exchanged [] i j hi hj = refl
-  map_exchanged (x ∷ xs) i j hi hj =
+  map_swapped : (rules : List Rule) (i j : ℕ) → i < length rules → j < length rules → cut ranges count (swap rules i j) ≡ swap (cut ranges count rules) i j
+  map_swapped [] i j hi hj = refl
+  map_swapped (x ∷ xs) i j hi hj =
       let f = cut_rule ranges count in
       rw (get_or-map f (x ∷ xs) i x (f x) hi, get_or-map f (x ∷ xs) j x (f x) hj) (simp map-set refl)
 
-  pub cut_swap : (rules : List Rule) (first second : ℕ) → 1 ≤ first → first < second → second < length rules
-      → cut ranges count (edited rules (Swap first second)) ≡ edited (cut ranges count rules) (Swap first second)
-  cut_swap rules first second low order high = map_exchanged rules (first - 1) (second - 1) (omega arith) (omega arith)
-
-  pub cut_delete : (rules : List Rule) (place : ℕ) → cut ranges count (edited rules (Delete place)) ≡ edited (cut ranges count rules) (Delete place)
-  cut_delete rules place = simp (map-append, take-map, drop-map) refl
+  pub cut_edited : (rules : List Rule) (edit : Edit ℕ) → InPlace (length rules) edit → Known count edit → cut ranges count (edited rules edit) ≡ edited (cut ranges count rules) edit
+  cut_edited rules (Change place decision) at known =
+      let least : min decision (count - 1) ≡ decision = omega arith in
+      simp (map-set, rule_at_cut rules place at.0 at.1, least) refl
+  cut_edited rules (Swap first second) at known = map_swapped rules (first - 1) (second - 1) (omega arith) (omega arith)
+  cut_edited rules (Delete place) at known = simp (map-append, take-map, drop-map) refl
 
   pub cut_add : (rules : List Rule) (rule : Rule) → cut ranges count (above_default rules rule) ≡ above_default (cut ranges count rules) (cut_rule ranges count rule)
   cut_add rules rule = simp (map-append, take-map, drop-map, length-map) refl
@@ -57,13 +48,11 @@ wide_cut [] clauses lawful h = refl
 wide_cut (r ∷ rs) [] lawful h = ap (λ l. r ∷ l) (wide_cut rs [] lawful.1 refl)
 wide_cut (r ∷ rs) (c ∷ cs) lawful h =
     let both = and_parts (wide c) (every wide cs) h in
-    let ends = and_parts (eqb c.lower 0) (eqb c.upper 4294967295) both.0 in
-    let low = eqb-true c.lower 0 ends.0 in
-    let high = eqb-true c.upper 4294967295 ends.1 in
+    let whole = both.0 in
     let run = lawful.0.0 in
     let fit = lawful.0.1 in
-    let lower : nearest r c.lower ≡ r.lower = omega arith in
-    let upper : nearest r c.upper ≡ r.upper = omega arith in
+    let lower : nearest r c.lower ≡ r.lower = grind (arith, nat_tests) in
+    let upper : nearest r c.upper ≡ r.upper = grind (arith, nat_tests) in
     ap (λ i. i ∷ cut_clauses rs cs) (λ k. from_to (lower k) (upper k)) ∙ ap (λ l. r ∷ l) (wide_cut rs cs lawful.1 both.1)
 
 lawful_cut_clause : (range clause : Interval) → LawfulRange range → Forward clause → LawfulClause range (cut_interval range clause)

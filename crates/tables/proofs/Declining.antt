@@ -1,19 +1,15 @@
 -- What the checks of an edit tell. Assumes nothing.
-use Rattle.std.proofs.Common.{◌≡◌, ℕ, ◌<◌, ◌≤◌, Bool, true, false, not, ◌&&◌, eqb, ltb, leb, None, Option, refl, arith}
+use Rattle.std.proofs.Common.{◌≡◌, ℕ, List, length, ◌<◌, ◌≤◌, Bool, true, false, not, ◌&&◌, eqb, ltb, leb, None, Option, refl, arith}
 use Rattle.std.proofs.lemmas.Bool.Decides.{nat_tests}
 use Rattle.std.proofs.lemmas.Bool.{and_parts, leb-true, ltb-true, eqb-false, not-false}
 use Rattle.rules.specs.declared.decline.Decline.{Decline}
 use Rattle.rules.specs.declared.decline.Decline.TheVariants.{NoSuchPlace, OutOfOrder, DefaultStays}
 use Rattle.rules.specs.Declines.{unless}
-use Rattle.tables.specs.Edits.{placed, change_decline, swap_decline, delete_decline}
-
-pub placed_parts : (n place : ℕ) → placed n place ≡ true → (1 ≤ place) × (place ≤ n)
-placed_parts n place h = let both = and_parts (leb 1 place) (leb place n) h in (leb-true 1 place both.0, leb-true place n both.1)
-
--- a check that did not decline passed, and so did those after it
-pub unless_none : (b : Bool) (d : Decline) (later : Option Decline) → unless b d later ≡ None → (b ≡ false) × (later ≡ None)
-unless_none true d later h = let z : ◌≡◌ {A = ℕ} 0 1 = cc in absurd (omega arith)
-unless_none false d later h = (refl, h)
+use Rattle.tables.specs.declared.edit.Edit.{Edit}
+use Rattle.tables.specs.declared.edit.Edit.TheVariants.{Change, Swap, Delete}
+use Rattle.rules.specs.declared.rule.Rule.{Rule}
+use Rattle.rules.specs.Rules.{rule_at}
+use Rattle.tables.specs.Edits.{change_decline, swap_decline, delete_decline, edit_decline, InPlace}
 
 pub change_taken : (n place present wanted : ℕ) → change_decline n place present wanted ≡ None → (1 ≤ place) × (place ≤ n)
 change_taken n place present wanted h = (grind (arith, nat_tests), grind (arith, nat_tests))
@@ -23,3 +19,9 @@ swap_taken n first second h = (grind (arith, nat_tests), grind (arith, nat_tests
 
 pub delete_taken : (n place : ℕ) → delete_decline n place ≡ None → (1 ≤ place) × (place < n)
 delete_taken n place h = (grind (arith, nat_tests), grind (arith, nat_tests))
+
+-- an edit that is not declined is in place
+pub taken_in_place : (rules : List Rule) (edit : Edit ℕ) → edit_decline rules edit ≡ None → InPlace (length rules) edit
+taken_in_place rules (Change place decision) taken = change_taken (length rules) place (rule_at rules place).decision decision taken
+taken_in_place rules (Swap first second) taken = swap_taken (length rules) first second taken
+taken_in_place rules (Delete place) taken = delete_taken (length rules) place taken

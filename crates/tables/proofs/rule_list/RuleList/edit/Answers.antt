@@ -2,8 +2,8 @@
 use Rattle.std.proofs.Common.{[], vec_items, sym, ap, ◌∙◌, subst}
 use Rattle.tables.specs.Edits.{InPlace}
 use Rattle.rules.specs.Rules.{cut}
-use Rattle.tables.proofs.Applying.{taken_in_place, edited_cut}
-use Rattle.tables.proofs.Cuts.{length_cut}
+use Rattle.tables.proofs.Cuts.{length_cut, cut_edited}
+use Rattle.tables.proofs.Declining.{taken_in_place}
 use Rattle.tables.proofs.rule_list.RuleList.edit.Goals as goal
 
 pub apply-requires : goal.apply-requires
@@ -19,5 +19,5 @@ returns c ranges =
     let at = subst (λ n. InPlace n c.args.edit) (length_cut ranges c.args.decisions rules) (taken_in_place (cut ranges c.args.decisions rules) c.args.edit (sym taken)) in
     record {
       declines = taken;
-      leaves = ap (cut ranges c.args.decisions) c.apply.ensures ∙ edited_cut ranges c.args.decisions rules c.args.edit at c.requires;
+      leaves = ap (cut ranges c.args.decisions) c.apply.ensures ∙ cut_edited ranges c.args.decisions rules c.args.edit at c.requires;
     }
