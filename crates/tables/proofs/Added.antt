@@ -23,15 +23,15 @@ above_last accepted default rule =
     ∙ sym (append_assoc accepted (rule ∷ []) (default ∷ []))
 
 pub added : (ranges : List Interval) (count : ℕ) (rules after : List Rule) (clauses kept : List Interval) (decision : ℕ) → length (cut ranges count rules) < 64 → length ranges ≤ length clauses → decision < count
-    → clauses_decline ranges clauses ≡ None → take (length ranges) kept ≡ take (length ranges) clauses → after ≡ above_default rules (record { clauses = kept; decision = decision })
+    → None ≡ clauses_decline ranges clauses → take (length ranges) kept ≡ take (length ranges) clauses → after ≡ above_default rules (record { clauses = kept; decision = decision })
     → Added ranges (cut ranges count rules) clauses decision None (cut ranges count after)
 added ranges count rules after clauses kept decision free six known taken same done =
-    let clauses_are = taken_cut ranges clauses kept six taken same in
+    let clauses_are = taken_cut ranges clauses kept six (sym taken) same in
     let least : min decision (count - 1) ≡ decision = omega arith in
     let leaves = ap (cut ranges count) done ∙ cut_add ranges count rules (record { clauses = kept; decision = decision })
     ∙ (λ k. above_default (cut ranges count rules) (record { clauses = clauses_are k; decision = least k })) in
     record {
-      declines = sym (ap (λ b. unless b Full (clauses_decline ranges clauses)) (lt-leb 64 (length (cut ranges count rules)) free) ∙ taken);
+      declines = taken ∙ sym (ap (λ b. unless b Full (clauses_decline ranges clauses)) (lt-leb 64 (length (cut ranges count rules)) free));
       leaves = leaves;
       in_order = λ accepted default split. leaves ∙ ap (λ l. above_default l (given_rule ranges clauses decision)) split ∙ above_last accepted default (given_rule ranges clauses decision);
     }

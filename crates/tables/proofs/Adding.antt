@@ -1,17 +1,15 @@
 -- Adding a rule: the checks of its clauses one after the other, and that a rule in range is not cut. Assumes nothing.
-use Rattle.std.proofs.Common.{◌≡◌, ℕ, ◌≤◌, true, not, List, [], ◌∷◌, ◌++◌, length, take, drop, replicate, Some, None, Option, refl, ap, ◌∙◌, ◌⊎◌, inl, inr, le_of_suc-le-suc, not-suc-le-zero, arith}
+use Rattle.std.proofs.Common.{◌≡◌, ℕ, ◌≤◌, true, List, [], ◌∷◌, ◌++◌, length, take, drop, replicate, Some, None, Option, refl, ap, ◌∙◌, ◌⊎◌, inl, inr, le_of_suc-le-suc, not-suc-le-zero, arith}
 use Rattle.std.proofs.lemmas.List.Elements.{All-append, All-drop, All-replicate}
 use Rattle.std.proofs.lemmas.Bool.Decides.{nat_tests}
-use Rattle.std.proofs.lemmas.Bool.{not-false, and_from}
+use Rattle.std.proofs.lemmas.Bool.{and_from}
 use Rattle.rules.specs.declared.decline.Decline.{Decline}
-use Rattle.rules.specs.declared.decline.Decline.TheVariants.{OutsideRange, LowerAboveUpper}
 use Rattle.rules.specs.declared.interval.Interval.{Interval}
 use Rattle.rules.specs.Clauses.{clause_decline}
 use Rattle.tables.specs.Adding.{clauses_decline}
 use Rattle.rules.specs.Declines.{or_else}
-use Rattle.rules.specs.Intervals.{inside, forward, every, nearest, cut_interval, from_to}
+use Rattle.rules.specs.Intervals.{forward, every, nearest, cut_interval, from_to}
 use Rattle.rules.specs.Rules.{cut_clauses}
-use Rattle.rules.proofs.Insides.{inside_true}
 use Rattle.tables.proofs.Kept.{every_decides}
 
 or_else_none : (o later : Option Decline) → or_else o later ≡ None → (o ≡ None) × (later ≡ None)

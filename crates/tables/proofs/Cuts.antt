@@ -1,16 +1,16 @@
 -- Cut rules: they are lawful, and cutting goes before or after an edit alike. Assumes nothing.
-use Rattle.std.proofs.Common.{◌≡◌, ℕ, suc, ◌-◌, ◌<◌, ◌≤◌, min, true, eqb, List, [], ◌∷◌, ◌++◌, map, length, get_or, take, drop, set, vec_items, vec_len, sym, refl, ap, ◌∙◌, ⊎_elim, arith}
-use Rattle.std.specs.List.{insert, swap, AllByRecursion}
+use Rattle.std.proofs.Common.{◌≡◌, ℕ, ◌-◌, ◌<◌, ◌≤◌, min, true, List, [], ◌∷◌, length, vec_items, vec_len, sym, refl, ap, ◌∙◌, arith}
+use Rattle.std.specs.List.{swap, AllByRecursion}
 use Rattle.std.proofs.lemmas.List.Elements.{All-map, All-weaker, recursion_from_All}
-use Rattle.std.proofs.lemmas.List.{map-set, map-append, take-map, drop-map, get_or-map, length-map, get_or_past}
+use Rattle.std.proofs.lemmas.List.{map-set, map-append, take-map, drop-map, get_or-map, length-map}
 use Rattle.std.proofs.lemmas.Bool.Decides.{nat_tests}
-use Rattle.std.proofs.lemmas.Bool.{and_parts, leb-true, eqb-true, cases_lt}
+use Rattle.std.proofs.lemmas.Bool.{and_parts, leb-true}
 use Rattle.tables.specs.declared.edit.Edit.{Edit}
 use Rattle.tables.specs.declared.edit.Edit.TheVariants.{Change, Swap, Delete}
 use Rattle.rules.specs.declared.interval.Interval.{Interval}
 use Rattle.rules.specs.declared.rule.Rule.{Rule}
 use Rattle.tables.specs.declared.rule_list.RuleList.{RuleList}
-use Rattle.tables.specs.Edits.{edited, with_decision, InPlace, Known}
+use Rattle.tables.specs.Edits.{edited, InPlace, Known}
 use Rattle.rules.specs.Intervals.{every, wide, forward, Forward, nearest, cut_interval, from_to}
 use Rattle.rules.specs.Kinds.{LawfulRange, LawfulRanges}
 use Rattle.rules.specs.Rules.{rule_at, forward_rule, above_default, default_rule, cut_clauses, cut_rule, cut, Lawful, LawfulRule, LawfulClause, LawfulClauses}

@@ -1,10 +1,6 @@
 -- What the checks of an edit tell. Assumes nothing.
-use Rattle.std.proofs.Common.{◌≡◌, ℕ, List, length, ◌<◌, ◌≤◌, Bool, true, false, not, ◌&&◌, eqb, ltb, leb, None, Option, refl, arith}
+use Rattle.std.proofs.Common.{◌≡◌, ℕ, List, length, ◌<◌, ◌≤◌, None, arith}
 use Rattle.std.proofs.lemmas.Bool.Decides.{nat_tests}
-use Rattle.std.proofs.lemmas.Bool.{and_parts, leb-true, ltb-true, eqb-false, not-false}
-use Rattle.rules.specs.declared.decline.Decline.{Decline}
-use Rattle.rules.specs.declared.decline.Decline.TheVariants.{NoSuchPlace, OutOfOrder, DefaultStays}
-use Rattle.rules.specs.Declines.{unless}
 use Rattle.tables.specs.declared.edit.Edit.{Edit}
 use Rattle.tables.specs.declared.edit.Edit.TheVariants.{Change, Swap, Delete}
 use Rattle.rules.specs.declared.rule.Rule.{Rule}

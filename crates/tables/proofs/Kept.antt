@@ -1,20 +1,17 @@
 -- What each edit of a list of rules keeps: every clause runs forward, and the last rule is wide. Assumes nothing.
-use Rattle.std.proofs.Common.{◌≡◌, ℕ, suc, ◌+◌, ◌-◌, ◌<◌, ◌≤◌, Bool, true, List, [], length, get_or, take, drop, set, vec_items, vec_len, Vec, sym, refl, ap, ◌∙◌, subst, ⊎_elim, arith}
+use Rattle.std.proofs.Common.{◌≡◌, ℕ, suc, ◌-◌, ◌<◌, ◌≤◌, Bool, true, List, [], length, take, drop, vec_items, vec_len, Vec, refl, ap, ◌∙◌, subst, arith}
 use Rattle.std.specs.declared.alloc.Global.{Global}
 use Rattle.std.specs.Bool.{Decides}
-use Rattle.std.specs.List.{All, remove, swap}
+use Rattle.std.specs.List.{All, swap}
 use Rattle.std.proofs.lemmas.Bool.Decides.{Decides-by_and}
 use Rattle.std.proofs.lemmas.Grind.{elements}
 use Rattle.std.proofs.lemmas.List.Sorted.{All-permutation, IsPermutation-swap}
-use Rattle.std.proofs.lemmas.List.Elements.{All-set, All-take, All-drop, All-append, All-get_or}
-use Rattle.std.proofs.lemmas.List.Edits.{length-remove, get_or-remove_above, length-swap, swap_is, swapped_from_swap}
-use Rattle.std.proofs.lemmas.List.{get_or-set_same, get_or-set_other, length-set}
-use Rattle.std.proofs.lemmas.Bool.{cases_eq}
+use Rattle.std.proofs.lemmas.List.Elements.{All-take, All-drop, All-append}
 use Rattle.tables.specs.declared.edit.Edit.{Edit}
 use Rattle.tables.specs.declared.edit.Edit.TheVariants.{Change, Swap, Delete}
 use Rattle.tables.specs.declared.rule_list.RuleList.{RuleList}
 use Rattle.rules.specs.declared.rule.Rule.{Rule}
-use Rattle.tables.specs.Edits.{edited, with_decision, InPlace}
+use Rattle.tables.specs.Edits.{edited, InPlace}
 use Rattle.rules.specs.Intervals.{every, wide}
 use Rattle.rules.specs.Rules.{rule_at, forward_rule}
 
@@ -58,11 +55,8 @@ pub list_kept : (old : RuleList) (edit : Edit ℕ) (new : Vec Rule Global) → I
     → (every forward_rule (vec_items new) ≡ true) × (every wide (rule_at (vec_items new) (vec_len new)).clauses ≡ true)
 list_kept old edit new at is =
     let xs = vec_items old.rules in
-    let inside = subst (λ n. InPlace n edit) old.rules.ok.0 at in (
+    let inside = subst (λ n. InPlace n edit) old.rules.ok.0 at in
+    let whole = subst (λ n. every wide (rule_at xs n).clauses ≡ true) old.rules.ok.0 old.whole in (
       ap (every forward_rule) is ∙ (every_decides forward_rule (edited xs edit)).1 (all_kept xs edit inside ((every_decides forward_rule xs).0 old.run)),
-      ap (λ n. every wide (rule_at (vec_items new) n).clauses) new.ok.0
-          ∙ ap (λ l. every wide (rule_at l (length l)).clauses) is
-          ∙ ap (every wide) (end_kept xs edit inside)
-          ∙ sym (ap (λ n. every wide (rule_at xs n).clauses) old.rules.ok.0)
-          ∙ old.whole,
+      ap (λ n. every wide (rule_at (vec_items new) n).clauses) new.ok.0 ∙ ap (λ l. every wide (rule_at l (length l)).clauses) is ∙ ap (every wide) (end_kept xs edit inside) ∙ whole,
     )

@@ -1,7 +1,5 @@
 -- Clauses that are not declined run forward, and an accepted rule is not changed by the cut.
-use Rattle.std.proofs.Common.{◌≤◌, length, take, vec_items, sym, ap, ◌∙◌, arith, rules}
-use Rattle.tables.specs.Adding.{clauses_decline}
-use Rattle.rules.specs.Rules.{above_default}
+use Rattle.std.proofs.Common.{◌≤◌, length, vec_items, sym, ◌∙◌, arith, rules}
 use Rattle.tables.proofs.Added.{added}
 use Rattle.tables.proofs.Adding.{taken_forward}
 use Rattle.tables.proofs.draft.Draft.add.Goals as goal
@@ -17,6 +15,4 @@ returns-clause-added g c =
     let six : length c.ranges-ranges.result.now ≤ length c.args.clauses = search rules in
     added g.Q.RequestKind.ranges g.D.DecisionKind.count (vec_items list) (vec_items c.add.new.self.rules) c.args.clauses c.asked.result (g.D.DecisionKind.number c.args.decision)
     (omega arith) (rw own at six) (g.met.D.DecisionKind.numbered c.args.decision)
-    (ap (λ ranges. clauses_decline ranges c.args.clauses) (sym own) ∙ sym c.in_ok-check_clauses.ensures)
-    (ap (λ ranges. take (length ranges) c.asked.result) (sym own) ∙ c.asked.ensures.same ∙ ap (λ ranges. take (length ranges) c.args.clauses) own)
-    (c.add.ensures ∙ ap (λ d. above_default (vec_items list) (record { clauses = c.asked.result; decision = d })) c.number.ensures)
+    (rw own at c.in_ok-check_clauses.ensures) (rw own at c.asked.ensures.same) (rw c.number.ensures at c.add.ensures)
