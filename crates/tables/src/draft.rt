@@ -32,8 +32,8 @@ fn check_clauses(ranges: &[Interval], clauses: &[Interval]) -> Result<(), Declin
 }
 
 // The clauses of the fields that there are, and none that runs backward behind them.
-fn asked(clauses: &[Interval], fields: usize) -> Clauses
-    requires within { (fields ≤ 6) × (fields ≤ length clauses.now) }
+fn asked(clauses: &Clauses, fields: usize) -> Clauses
+    requires within { fields ≤ 6 }
     requires run { every forward (take fields clauses.now) ≡ true }
     ensures same { take fields result ≡ take fields clauses.now }
     ensures run { every forward result ≡ true }
@@ -69,6 +69,7 @@ impl<Q: RequestKind, D: DecisionKind> Draft<Q, D> {
         if self.table.count() >= MAX_RULES {
             return Err(Decline::Full);
         }
+        // The table's copy is not known to be the kinds' own: its ghost fields cannot name those.
         let own = Limits::of::<Q, D>();
         let ranges = own.ranges();
         check_clauses(ranges, &clauses)?;

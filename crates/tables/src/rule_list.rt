@@ -48,7 +48,7 @@ impl RuleList {
         self.rules.insert(last, rule).unwrap();
     }
 
-    pub(crate) fn change(&mut self, place: usize, decision: u8)
+    fn change(&mut self, place: usize, decision: u8)
         requires { (1 ≤ place) × (place ≤ vec_len self.old.rules) }
         ensures { self.new.rules.items ≡ edited self.old.rules.items (Edit.Change place decision) }
     {

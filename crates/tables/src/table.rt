@@ -41,7 +41,7 @@ impl<Q: RequestKind, D: DecisionKind> Table<Q, D> {
         D::make(u32::from(number))
     }
 
-    // Declined as the edit would be.
+    // Declined as the edit would be, which is not made.
     pub fn check_edit(&self, edit: &Edit<D>) -> Result<(), Decline>
         ensures { declined result ≡ edit_decline (table_rules Q.RequestKind.ranges D.DecisionKind.count self.now) (plain_edit D.DecisionKind.number edit.now) }
     {
