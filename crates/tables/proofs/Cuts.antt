@@ -1,5 +1,5 @@
 -- Cut rules: they are lawful, and cutting goes before or after an edit alike. Assumes nothing.
-use Rattle.std.proofs.Common.{◌≡◌, ℕ, ◌-◌, ◌<◌, ◌≤◌, min, true, List, [], ◌∷◌, length, vec_items, vec_len, sym, refl, ap, ◌∙◌, arith}
+use Rattle.std.proofs.Common.{◌≡◌, ℕ, ◌-◌, ◌<◌, ◌≤◌, min, true, List, [], ◌∷◌, length, vec_items, vec_len, None, sym, refl, ap, ◌∙◌, subst, arith}
 use Rattle.std.specs.List.{swap, AllByRecursion}
 use Rattle.std.proofs.lemmas.List.Elements.{All-map, All-weaker, recursion_from_All}
 use Rattle.std.proofs.lemmas.List.{map-set, map-append, take-map, drop-map, get_or-map, length-map}
@@ -10,10 +10,11 @@ use Rattle.tables.specs.declared.edit.Edit.TheVariants.{Change, Swap, Delete}
 use Rattle.rules.specs.declared.interval.Interval.{Interval}
 use Rattle.rules.specs.declared.rule.Rule.{Rule}
 use Rattle.tables.specs.declared.rule_list.RuleList.{RuleList}
-use Rattle.tables.specs.Edits.{edited, InPlace, Known}
+use Rattle.tables.specs.Edits.{edit_decline, edited, InPlace, Known}
 use Rattle.rules.specs.Intervals.{every, wide, forward, Forward, nearest, cut_interval, from_to}
 use Rattle.rules.specs.Kinds.{LawfulRange, LawfulRanges}
 use Rattle.rules.specs.Rules.{rule_at, forward_rule, above_default, default_rule, cut_clauses, cut_rule, cut, Lawful, LawfulRule, LawfulClause, LawfulClauses}
+use Rattle.tables.proofs.Declining.{taken_in_place}
 use Rattle.tables.proofs.Kept.{every_decides}
 
 abbrev blank : Rule
@@ -25,6 +26,10 @@ module _ (ranges : List Interval) (count : ℕ) where
 
   pub rule_at_cut : (rules : List Rule) (place : ℕ) → 1 ≤ place → place ≤ length rules → rule_at (cut ranges count rules) place ≡ cut_rule ranges count (rule_at rules place)
   rule_at_cut rules place low high = get_or-map (cut_rule ranges count) rules (place - 1) blank blank (omega arith)
+
+  -- an edit that is not declined on the rules as cut is in place on the rules
+  pub cut_in_place : (rules : List Rule) (edit : Edit ℕ) → edit_decline (cut ranges count rules) edit ≡ None → InPlace (length rules) edit
+  cut_in_place rules edit taken = subst (λ n. InPlace n edit) (length_cut rules) (taken_in_place (cut ranges count rules) edit taken)
 
   map_swapped : (rules : List Rule) (i j : ℕ) → i < length rules → j < length rules → cut ranges count (swap rules i j) ≡ swap (cut ranges count rules) i j
   map_swapped [] i j hi hj = refl

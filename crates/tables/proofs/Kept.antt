@@ -1,5 +1,5 @@
 -- What each edit of a list of rules keeps: every clause runs forward, and the last rule is wide. Assumes nothing.
-use Rattle.std.proofs.Common.{◌≡◌, ℕ, suc, ◌-◌, ◌<◌, ◌≤◌, Bool, true, List, [], length, take, drop, vec_items, vec_len, Vec, refl, ap, ◌∙◌, subst, arith}
+use Rattle.std.proofs.Common.{◌≡◌, ℕ, suc, ◌-◌, ◌<◌, ◌≤◌, Bool, true, List, length, take, drop, vec_items, vec_len, Vec, refl, ap, ◌∙◌, subst, arith}
 use Rattle.std.specs.declared.alloc.Global.{Global}
 use Rattle.std.specs.Bool.{Decides}
 use Rattle.std.specs.List.{All, swap}
@@ -21,9 +21,6 @@ every_decides f xs = Decides-by_and f (λ x. f x ≡ true) (every f) (λ x. (λ 
 
 abbrev passes : Rule → Type 0
 passes rule = forward_rule rule ≡ true
-
-abbrev blank : Rule
-blank = record { clauses = []; decision = 0 }
 
 -- the last rule keeps its clauses under each edit
 pub change_end : (xs : List Rule) (place decision : ℕ) → 1 ≤ place → place ≤ length xs

@@ -18,6 +18,7 @@ use std::marker::PhantomData;
 
 #[derive(Drop)]
 pub struct Draft<Q, D> {
+    // The table that it will be closed to.
     table: Table<Q, D>,
 }
 

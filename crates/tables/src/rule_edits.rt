@@ -42,6 +42,7 @@ fn check_delete(count: usize, place: usize) -> Result<(), Decline>
     Ok(())
 }
 
+// How many decisions there are is told with each call: a list is of no kind, so its ghost fields cannot name it.
 impl RuleList {
     // The number of the decision at a place, cut to the decisions that there are; None where there is no such place.
     pub(crate) fn decision_number(&self, decisions: usize, place: usize) -> Option<u8>

@@ -16,6 +16,7 @@ use std::marker::PhantomData;
 
 #[derive(Drop)]
 pub struct Table<Q, D> {
+    // The kinds' limits as plain numbers; nothing reads this copy yet.
     pub(crate) limits: Limits,
     pub(crate) list: RuleList,
     pub(crate) kinds: PhantomData<(Q, D)>,
