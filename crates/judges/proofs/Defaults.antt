@@ -7,12 +7,10 @@ use Rattle.tables.specs.declared.edit.Edit.TheVariants.{Change, Swap, Delete}
 use Rattle.rules.specs.declared.interval.Interval.{Interval}
 use Rattle.rules.specs.declared.rule.Rule.{Rule}
 use Rattle.rules.specs.Intervals.{within}
-use Rattle.rules.specs.Rules.{rule_at, Lawful, LawfulRule}
+use Rattle.rules.specs.Rules.{matches, rule_at, Lawful, LawfulRule}
 use Rattle.tables.proofs.Declining.{change_taken, swap_taken, delete_taken}
 use Rattle.tables.proofs.Kept.{change_end, swap_end, delete_end}
-use Rattle.judges.specs.Matches.{FirstMatch, first_match}
 use Rattle.judges.specs.Views.{under, Taken, KnownIn, source_of, count_under, decision_under}
-use Rattle.judges.proofs.Judging.{first_found}
 use Rattle.judges.proofs.Seeing.{stands, length_under}
 
 same_end : (edit : Option (Edit ℕ)) (rules : List Rule) → Taken edit rules → (rule_at (under edit rules) (length (under edit rules))).clauses ≡ (rule_at rules (length rules)).clauses
@@ -34,13 +32,12 @@ below_under (Some (Swap i j)) count p own known h = h
 below_under (Some (Delete i)) count p own known h = h
 
 module _ (ranges : List Interval) (count : ℕ) (rules : List Rule) (edit : Option (Edit ℕ)) (lawful : Lawful ranges count rules) (taken : Taken edit rules) where
-  -- a request with values in range has a first match
-  pub first_under : (values : List ℕ) → within ranges values ≡ true → FirstMatch (under edit rules) values (first_match (under edit rules) values)
-  first_under values ranged =
+  -- a request with values in range is matched by the last rule
+  pub default_matches : (values : List ℕ) → within ranges values ≡ true → (1 ≤ length (under edit rules)) × (matches (rule_at (under edit rules) (length (under edit rules))) values ≡ true)
+  default_matches values ranged =
       let long = length_under edit rules taken in
       let some = some_left edit rules taken lawful.some in
-      let end = same_end edit rules taken ∙ lawful.default in
-      first_found (under edit rules) values (length (under edit rules)) (omega arith) (omega arith) (ap (λ clauses. within clauses values) end ∙ ranged)
+      (omega arith, ap (λ clauses. within clauses values) (same_end edit rules taken ∙ lawful.default) ∙ ranged)
 
   -- every decision is one of those that there are
   pub decision_below : KnownIn count edit → (p : ℕ) → 1 ≤ p → p ≤ length (under edit rules) → (rule_at (under edit rules) p).decision < count

@@ -1,65 +1,86 @@
--- The first match and the matching set, one place after the other from the top. Assumes nothing.
-use Rattle.std.proofs.Common.{◌≡◌, ℕ, suc, ◌+◌, ◌-◌, ◌*◌, ◌%◌, ◌^◌, ◌<◌, ◌≤◌, Bool, true, false, cond, List, [], length, get_or, drop, sym, ap, ◌∙◌, mul_assoc, mul-add, arith}
+-- The first match and the matching set, read one place after the other from the top. Assumes nothing.
+use Rattle.std.proofs.Common.{◌≡◌, ℕ, suc, ◌+◌, ◌-◌, ◌*◌, ◌%◌, ◌^◌, ◌<◌, ◌≤◌, Bool, true, false, not, cond, List, [], ◌∷◌, ◌++◌, length, get_or, take, Option, Some, None, MatchOption, sym, refl, subst, ap, ◌∙◌, arith}
 use lib.Bits.{bit_or}
-use Rattle.std.proofs.lemmas.Nat.{one_shl, or_comm, or_shifted, pow-add}
-use Rattle.std.proofs.lemmas.List.{drop_more, drop_all}
+use Rattle.std.specs.List.{position_or_len}
+use native.Mathlib.Numerals.{unary_clauses}
+use Rattle.std.proofs.lemmas.Bool.{cond_both}
+use Rattle.std.proofs.lemmas.List.{length-take, take_more}
+use Rattle.std.proofs.lemmas.List.Recursion.{same_from_clauses}
+use Rattle.std.proofs.lemmas.List.Sums.{position_or_len_is}
+use Rattle.std.proofs.lemmas.Nat.{one_shl, or_comm, or_shifted}
+use Rattle.std.proofs.Math.Nat.{pow-succ'}
 use Rattle.rules.specs.declared.rule.Rule.{Rule}
 use Rattle.rules.specs.Rules.{matches, rule_at}
-use Rattle.judges.specs.Matches.{first_match, matching_set}
+use Rattle.judges.specs.Matches.{FirstMatch, first_match, matching_set}
+use Rattle.judges.proofs.Blank.{blank}
 
-abbrev blank : Rule
-blank = record { clauses = []; decision = 0 }
+-- the computed place, in std's words
+first_at : (rules : List Rule) (values : List ℕ) → first_match rules values ≡ suc (position_or_len (λ rule. matches rule values) rules)
+first_at rules values =
+    let past : (b : Bool) (n : ℕ) → suc (cond (not b) (1 + n) 0) ≡ cond b 1 (suc (suc n)) = λ b n. elim b as (λ t. suc (cond (not t) (1 + n) 0) ≡ cond t 1 (suc (suc n))) [ true ↦ refl | false ↦ omega arith ] in
+    same_from_clauses (λ l. first_match l values) (λ l. suc (position_or_len (λ rule. matches rule values) l)) (λ rule n. cond (matches rule values) 1 (suc n)) refl (λ _ _. refl)
+    (λ rule rest. past (matches rule values) (position_or_len (λ r. matches r values) rest)) rules
 
-module _ (rules : List Rule) (values : List ℕ) where
-  -- the rule that is read at index k, of which the test was t
-  read : (k : ℕ) (t : Bool) → matches (rule_at rules (k + 1)) values ≡ t → matches (get_or rules k blank) values ≡ t
-  read k t h = let at : (k + 1) - 1 ≡ k = omega arith in ap (λ i. matches (get_or rules i blank) values) (sym at) ∙ h
+-- a first match as installers read it is the computed place
+pub first_is : (rules : List Rule) (values : List ℕ) (place : ℕ) → FirstMatch rules values place → place ≡ first_match rules values
+first_is rules values place first =
+    let low = first.from_one in
+    let high = first.to_last in
+    let at = position_or_len_is (λ rule. matches rule values) rules (place - 1) blank (omega arith) (λ k above. simp unary_clauses at (first.none_above (suc k) (omega arith) (omega arith))) (λ _. first.this) in
+    let is = first_at rules values in
+    omega arith
 
-  -- none of the k rules from the top matches
-  abbrev pub NoneOf : ℕ → Type 0
-  NoneOf k = first_match rules values ≡ k + first_match (drop k rules) values
+twice : (b : Bool) (n : ℕ) → cond b (2 ^ suc n) 0 ≡ 2 * cond b (2 ^ n) 0
+twice true n = pow-succ' 2 n
+twice false n = refl
 
-  pub first_step : (k : ℕ) (t : Bool) → k < length rules → matches (rule_at rules (k + 1)) values ≡ t → NoneOf k → first_match rules values ≡ k + cond t 1 (suc (first_match (drop (k + 1) rules) values))
-  first_step k t here h so_far =
-      so_far ∙ ap (λ l. k + first_match l values) (drop_more rules k blank here) ∙ ap (λ b. k + cond b 1 (suc (first_match (drop (k + 1) rules) values))) (read k t h)
+-- one rule more adds its bit
+set_push : (rules : List Rule) (rule : Rule) (values : List ℕ) → matching_set (rules ++ rule ∷ []) values ≡ matching_set rules values + cond (matches rule values) (2 ^ length rules) 0
+set_push [] rule values = omega arith
+set_push (r ∷ rules) rule values =
+    let rest = set_push rules rule values in
+    let next = twice (matches rule values) (length rules) in
+    omega arith
 
-  pub first_more : (k : ℕ) → k < length rules → matches (rule_at rules (k + 1)) values ≡ false → NoneOf k → NoneOf (k + 1)
-  first_more k here h so_far = let step = first_step k false here h so_far in omega arith
+set_more : (rules : List Rule) (values : List ℕ) (k : ℕ) → k < length rules
+    → matching_set (take (k + 1) rules) values ≡ matching_set (take k rules) values + cond (matches (get_or rules k blank) values) (2 ^ k) 0
+set_more rules values k here =
+    ap (λ l. matching_set l values) (take_more rules k blank here) ∙ set_push (take k rules) (get_or rules k blank) values
+    ∙ ap (λ n. matching_set (take k rules) values + cond (matches (get_or rules k blank) values) (2 ^ n) 0) (omega (arith, length-take k rules))
 
-  pub first_end : (k : ℕ) → length rules ≤ k → NoneOf k → first_match rules values ≡ k + 1
-  first_end k end so_far = so_far ∙ ap (λ l. k + first_match l values) (drop_all k rules end)
+-- no bit stands past the last rule
+pub no_more_bits : (rules : List Rule) (values : List ℕ) → matching_set rules values < 2 ^ length rules
+no_more_bits [] values = omega arith
+no_more_bits (rule ∷ rules) values =
+    let rest = no_more_bits rules values in
+    let power = pow-succ' 2 (length rules) in
+    cond_both (matches rule values) 1 0 (λ n. n + 2 * matching_set rules values < 2 ^ suc (length rules)) (λ _. omega arith) (λ _. omega arith)
 
-  -- the bits of the k rules from the top
-  abbrev pub BitsOf : ℕ → ℕ → Type 0
-  BitsOf set k = (set < 2 ^ k) × (matching_set rules values ≡ set + 2 ^ k * matching_set (drop k rules) values)
+-- a bit past those of a number is added to it
+or_next : (set k : ℕ) → set < 2 ^ k → k < 64 → bit_or set ((1 * 2 ^ k) % 2 ^ 64) ≡ set + 2 ^ k
+or_next set k small few = ap (bit_or set) (one_shl k 64 few) ∙ or_comm set (2 ^ k) ∙ ap (λ p. bit_or p set) (omega arith) ∙ or_shifted 1 k set small ∙ omega arith
 
-  set_step : (set k : ℕ) (t : Bool) → k < length rules → matches (rule_at rules (k + 1)) values ≡ t → BitsOf set k
-      → matching_set rules values ≡ (set + 2 ^ k * cond t 1 0) + 2 ^ (k + 1) * matching_set (drop (k + 1) rules) values
-  set_step set k t here h so_far =
-      let rest = matching_set (drop (k + 1) rules) values in
-      let this = so_far.1 ∙ ap (λ l. set + 2 ^ k * matching_set l values) (drop_more rules k blank here) ∙ ap (λ b. set + 2 ^ k * (cond b 1 0 + 2 * rest)) (read k t h) in
-      let split = mul-add (2 ^ k) (cond t 1 0) (2 * rest) in
-      let group = mul_assoc (2 ^ k) 2 rest in
-      let power = pow-add 2 k 1 in
-      let again : 2 ^ (k + 1) * rest ≡ 2 ^ k * 2 * rest = ap (λ p. p * rest) power in
-      omega arith
+module _ (rules : List Rule) (values : List ℕ) (set place : ℕ) (low : 1 ≤ place) (high : place ≤ length rules) (so_far : set ≡ matching_set (take (place - 1) rules) values) where
+  turn : (t : Bool) → matches (rule_at rules place) values ≡ t → set + cond t (2 ^ (place - 1)) 0 ≡ matching_set (take place rules) values
+  turn t is =
+      let next : place - 1 + 1 ≡ place = omega arith in
+      ap (λ s. s + cond t (2 ^ (place - 1)) 0) so_far ∙ ap (λ b. matching_set (take (place - 1) rules) values + cond b (2 ^ (place - 1)) 0) (sym is)
+      ∙ sym (set_more rules values (place - 1) (omega arith)) ∙ ap (λ n. matching_set (take n rules) values) next
 
-  pub set_skip : (set k : ℕ) → k < length rules → matches (rule_at rules (k + 1)) values ≡ false → BitsOf set k → BitsOf set (k + 1)
-  set_skip set k here h so_far =
-      let step = set_step set k false here h so_far in
-      let power = pow-add 2 k 1 in
-      let small = so_far.0 in
-      (omega arith, omega arith)
+  -- the set of the rules so far, after one that does not match and after one that does
+  pub set_skip : matches (rule_at rules place) values ≡ false → set ≡ matching_set (take place rules) values
+  set_skip is = let same = turn false is in omega arith
 
-  pub set_take : (set k : ℕ) → k < length rules → k < 64 → matches (rule_at rules (k + 1)) values ≡ true → BitsOf set k → BitsOf (bit_or set ((1 * 2 ^ k) % 2 ^ 64)) (k + 1)
-  set_take set k here few h so_far =
-      let step = set_step set k true here h so_far in
-      let power = pow-add 2 k 1 in
-      let small = so_far.0 in
-      let shifted = one_shl k 64 few in
-      let joined : bit_or set ((1 * 2 ^ k) % 2 ^ 64) ≡ 2 ^ k + set
-      = ap (bit_or set) shifted ∙ or_comm set (2 ^ k) ∙ ap (λ p. bit_or p set) (omega arith) ∙ or_shifted 1 k set small ∙ omega arith in
-      (omega arith, omega arith)
+  pub set_take : length rules ≤ 64 → matches (rule_at rules place) values ≡ true → bit_or set ((1 * 2 ^ (place - 1)) % 2 ^ 64) ≡ matching_set (take place rules) values
+  set_take few is =
+      let long : length (take (place - 1) rules) ≡ place - 1 = omega (arith, length-take (place - 1) rules) in
+      let small = subst (λ n. matching_set (take (place - 1) rules) values < 2 ^ n) long (no_more_bits (take (place - 1) rules) values) in
+      or_next set (place - 1) (omega arith) (omega arith) ∙ turn true is
 
-  pub set_end : (set k : ℕ) → length rules ≤ k → BitsOf set k → matching_set rules values ≡ set
-  set_end set k end so_far = so_far.1 ∙ ap (λ l. set + 2 ^ k * matching_set l values) (drop_all k rules end) ∙ omega arith
+-- what `find` answers over the places is the first match
+pub found : (rules : List Rule) (values : List ℕ) (n : ℕ) (place : Option ℕ) → n ≡ length rules
+    → MatchOption place ((p : ℕ) → 1 ≤ p → p < n + 1 → matches (rule_at rules p) values ≡ false)
+    (λ i. (1 ≤ i) × (i < n + 1) × (matches (rule_at rules i) values ≡ true) × ((p : ℕ) → 1 ≤ p → p < i → matches (rule_at rules p) values ≡ false))
+    → MatchOption place ((p : ℕ) → 1 ≤ p → p ≤ length rules → matches (rule_at rules p) values ≡ false) (FirstMatch rules values)
+found rules values n None long none = λ p low high. none p low (omega arith)
+found rules values n (Some i) long first = record { from_one = first.0; to_last = let high = first.1 in omega arith; this = first.2; none_above = first.3 }

@@ -1,69 +1,13 @@
 -- The computed answers are what installers read: the first match, and the matching set bit by bit. Assumes nothing.
-use Rattle.std.proofs.Common.{◌≡◌, ℕ, zero, suc, ◌+◌, ◌-◌, ◌*◌, ◌/◌, ◌%◌, ◌^◌, ◌<◌, ◌≤◌, Bool, true, false, cond, eqb, List, [], ◌∷◌, length, get_or, sym, refl, ap, ◌∙◌, subst, le_of_suc-le-suc, not-suc-le-zero, arith}
+use Rattle.std.proofs.Common.{◌≡◌, ℕ, zero, suc, ◌+◌, ◌-◌, ◌*◌, ◌/◌, ◌%◌, ◌^◌, ◌<◌, Bool, true, false, cond, eqb, List, [], ◌∷◌, length, get_or, sym, ap, ◌∙◌, subst, le_of_suc-le-suc, not-suc-le-zero, arith}
 use Rattle.std.proofs.lemmas.Nat.{shr-shr, pow-add}
-use Rattle.std.proofs.lemmas.Bool.{both_ways}
 use Rattle.rules.specs.declared.rule.Rule.{Rule}
 use Rattle.rules.specs.Rules.{matches, rule_at}
 use Rattle.judges.specs.Matches.{FirstMatch, first_match, Matching, matching_set, bit}
 use Rattle.judges.specs.Meanings.{Meaning, Judged, decided}
 use Rattle.judges.specs.Notes.{caps_on, strictest}
+use Rattle.judges.proofs.Blank.{blank}
 use Rattle.judges.proofs.Lowering.{lowered_less, lowered_refused, lowered_strictest}
-
-abbrev blank : Rule
-blank = record { clauses = []; decision = 0 }
-
--- the first match by its index, from 0
-record AtIndex (rules : List Rule) (values : List ℕ) (i : ℕ) : Type 0 where
-  is : first_match rules values ≡ suc i
-  below : i < length rules
-  this : matches (get_or rules i blank) values ≡ true
-  before : (j : ℕ) → j < i → matches (get_or rules j blank) values ≡ false
-
-step : (rule : Rule) (rules : List Rule) (values : List ℕ) (b : Bool) → matches rule values ≡ b → (b ≡ false → (i : ℕ) × AtIndex rules values i) → (i : ℕ) × AtIndex (rule ∷ rules) values i
-step rule rules values true m later = (
-  0,
-  record {
-    is = ap (λ b. cond b 1 (suc (first_match rules values))) m;
-    below = omega arith;
-    this = m;
-    before = λ j h. absurd (not-suc-le-zero h);
-  },
-)
-step rule rules values false m later =
-    let rest = later refl in (
-      suc rest.0,
-      record {
-        is = ap (λ b. cond b 1 (suc (first_match rules values))) m ∙ ap suc rest.1.is;
-        below = let h = rest.1.below in omega arith;
-        this = rest.1.this;
-        before = before' rest.0 rest.1;
-      },
-    )
-  where
-    before' : (i : ℕ) → AtIndex rules values i → (j : ℕ) → j < suc i → matches (get_or (rule ∷ rules) j blank) values ≡ false
-    before' i at zero h = m
-    before' i at (suc j) h = at.before j (le_of_suc-le-suc h)
-
-index : (rules : List Rule) (values : List ℕ) (k : ℕ) → k < length rules → matches (get_or rules k blank) values ≡ true → (i : ℕ) × AtIndex rules values i
-index [] values k h m = absurd (not-suc-le-zero h)
-index (rule ∷ rules) values zero h m = step rule rules values true m (λ e. absurd (both_ways true e refl))
-index (rule ∷ rules) values (suc k) h m = step rule rules values (matches rule values) refl (λ e. index rules values k (le_of_suc-le-suc h) m)
-
--- where some rule matches, the computed place is the first match
-pub first_found : (rules : List Rule) (values : List ℕ) (p : ℕ) → 1 ≤ p → p ≤ length rules → matches (rule_at rules p) values ≡ true → FirstMatch rules values (first_match rules values)
-first_found rules values p low high m =
-    let found = index rules values (p - 1) (omega arith) m in
-    let i = found.0 in
-    let at = found.1 in
-    let is = at.is in
-    let below = at.below in
-    let k : first_match rules values - 1 ≡ i = omega arith in
-    record {
-      from_one = omega arith;
-      to_last = omega arith;
-      this = ap (λ n. matches (get_or rules n blank) values) k ∙ at.this;
-      none_above = λ q one above. at.before (q - 1) (omega arith);
-    }
 
 bit_here : (b : Bool) (rest : ℕ) → bit (cond b 1 0 + 2 * rest) 0 ≡ b
 bit_here true rest =

@@ -1,3 +1,4 @@
+pub mod Blank
 pub mod Defaults
 pub mod Firsts
 pub mod Judging

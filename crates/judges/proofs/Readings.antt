@@ -1,72 +1,75 @@
 -- A verdict on a table by limits that are the kinds' own. Assumes nothing.
-use Rattle.std.proofs.Common.{◌≡◌, ℕ, ◌<◌, ◌≤◌, true, not, List, [], length, None, Option, sym, ap, ◌∙◌, subst, arith}
-use Rattle.std.proofs.lemmas.Bool.{lt-ltb}
+use Rattle.std.proofs.Common.{◌≡◌, ℕ, ◌<◌, ◌≤◌, true, false, not, List, [], length, None, Some, Option, IsSome, MatchOption, Result, Ok, Err, IsOk, vec_items, refl, sym, ap, ◌∙◌, subst, arith}
+use Rattle.std.proofs.lemmas.Bool.{both_ways, lt-ltb}
 use Rattle.rules.specs.declared.decline.Decline.TheVariants.{NotOfKind}
 use Rattle.tables.specs.declared.edit.Edit.{Edit}
 use Rattle.tables.specs.declared.edit.Edit.TheVariants.{Change, Swap, Delete}
 use Rattle.rules.specs.declared.interval.Interval.{Interval}
 use Rattle.rules.specs.declared.limits.Limits.{Limits}
 use Rattle.rules.specs.declared.rule.Rule.{Rule}
-use Rattle.rules.specs.Declines.{unless}
-use Rattle.tables.specs.Edits.{Known, plain_edit}
-use Rattle.rules.specs.Kinds.{decision_decline}
+use Rattle.rules.specs.Declines.{declined, unless}
+use Rattle.rules.specs.declared.decline.Decline.{Decline}
+use Rattle.tables.specs.declared.rule_list.RuleList.{RuleList}
+use Rattle.tables.proofs.Cuts.{list_lawful}
+use Rattle.tables.specs.Edits.{Known, plain_edit, edit_decline}
+use Rattle.rules.specs.Kinds.{LawfulRanges, decision_decline}
 use Rattle.rules.specs.Intervals.{within}
 use Rattle.rules.specs.Limits.{ranges_in}
-use Rattle.rules.specs.Rules.{cut, rule_at}
-use Rattle.tables.proofs.Cuts.{length_cut}
-use Rattle.judges.specs.Matches.{FirstMatch, first_match, matching_set}
+use Rattle.rules.specs.Rules.{cut, matches, rule_at}
+use Rattle.judges.specs.Matches.{FirstMatch, matching_set}
 use Rattle.judges.specs.Meanings.{Judged}
-use Rattle.judges.specs.Views.{under, Taken, in_force, seen, Viewable, Readable}
-use Rattle.judges.proofs.Defaults.{first_under, decision_below}
+use Rattle.judges.specs.Views.{under, seen, Readable}
+use Rattle.judges.proofs.Defaults.{default_matches, decision_below}
+use Rattle.judges.proofs.Firsts.{first_is}
 use Rattle.judges.proofs.Judging.{judged}
 
-module _ (ranges : List Interval) (count : ℕ) (rules : List Rule) (edit : Option (Edit ℕ)) (limits : Limits) (read : Readable ranges count rules edit)
-    (own_ranges : ranges_in limits ≡ ranges) (own_count : limits.decisions ≡ count) where
-  own : in_force rules limits ≡ cut ranges count rules
-  own = λ k. cut (own_ranges k) (own_count k) rules
+-- seen by the kinds' own limits, a table is what it stands for, under the edit
+pub seen_own : {ranges : List Interval} {count : ℕ} (rules : List Rule) (edit : Option (Edit ℕ)) (limits : Limits) → ranges_in limits ≡ ranges → limits.decisions ≡ count
+    → seen rules edit limits ≡ under edit (cut ranges count rules)
+seen_own rules edit limits own_ranges own_count = λ k. under edit (cut (own_ranges k) (own_count k) rules)
 
-  pub viewable : Viewable rules edit limits
-  viewable = record {
-    few = let long = length_cut ranges count rules in let few = read.lawful.few in omega arith;
-    taken = subst (Taken edit) (sym own) read.taken;
-  }
+module _ (ranges : List Interval) (count : ℕ) (rules : List Rule) (edit : Option (Edit ℕ)) (read : Readable ranges count rules edit) where
+  abbrev shown : List Rule
+  shown = under edit (cut ranges count rules)
 
-  pub seen_own : seen rules edit limits ≡ under edit (cut ranges count rules)
-  seen_own = ap (under edit) own
+  -- some rule matches, since the default does
+  pub place_found : (values : List ℕ) → within ranges values ≡ true → (place : Option ℕ)
+      → MatchOption place ((p : ℕ) → 1 ≤ p → p ≤ length shown → matches (rule_at shown p) values ≡ false) (FirstMatch shown values) → IsSome place
+  place_found values ranged None none =
+      let last = default_matches ranges count (cut ranges count rules) edit read.lawful read.taken values ranged in
+      absurd (both_ways true (sym last.1 ∙ none (length shown) last.0 (omega arith)) refl)
+  place_found values ranged (Some place) first = refl
 
-  module _ (values : List ℕ) (ranged : within ranges values ≡ true) where
-    found : FirstMatch (under edit (cut ranges count rules)) values (first_match (under edit (cut ranges count rules)) values)
-    found = first_under ranges count (cut ranges count rules) edit read.lawful read.taken values ranged
+  -- the decision of the rule there can be made
+  pub decision_made : {values : List ℕ} {place number : ℕ} → FirstMatch shown values place → number ≡ (rule_at shown place).decision → decision_decline count number ≡ None
+  decision_made {values} {place} {number} first told =
+      let below = decision_below ranges count (cut ranges count rules) edit read.lawful read.taken read.known place first.from_one first.to_last in
+      ap (λ b. unless (not b) NotOfKind None) (lt-ltb number count (omega arith))
 
-    -- the place that the scan finds is one of the table's
-    pub place_in : (place : ℕ) → place ≡ first_match (seen rules edit limits) values → (1 ≤ place) × (place ≤ length (seen rules edit limits))
-    place_in place is =
-        let at = is ∙ ap (λ l. first_match l values) seen_own in
-        let low = found.from_one in
-        let high = found.to_last in
-        let long = ap length seen_own in
-        (omega arith, omega arith)
-
-    -- and its decision can be made
-    pub decision_made : (place number : ℕ) → place ≡ first_match (seen rules edit limits) values → number ≡ (rule_at (seen rules edit limits) place).decision → decision_decline count number ≡ None
-    decision_made place number is told =
-        let inside = place_in place is in
-        let long = ap length seen_own in
-        let below = decision_below ranges count (cut ranges count rules) edit read.lawful read.taken read.known place inside.0 (omega arith) in
-        let same = told ∙ ap (λ l. (rule_at l place).decision) seen_own in
-        ap (λ b. unless (not b) NotOfKind None) (lt-ltb number count (omega arith))
-
-    pub verdict_judged : (decision place set number : ℕ) → place ≡ first_match (seen rules edit limits) values → set ≡ matching_set (seen rules edit limits) values
-        → number ≡ (rule_at (seen rules edit limits) place).decision → decision ≡ number
-        → Judged (record { rules = under edit (cut ranges count rules); notes = [] }) values decision place set
-    verdict_judged decision place set number place_is set_is told made =
-        let at = place_is ∙ ap (λ l. first_match l values) seen_own in
-        judged (record { rules = under edit (cut ranges count rules); notes = [] }) values found
-        (made ∙ told ∙ ap (λ l. (rule_at l place).decision) seen_own ∙ ap (λ p. (rule_at (under edit (cut ranges count rules)) p).decision) at)
-        at (set_is ∙ ap (λ l. matching_set l values) seen_own)
+  pub verdict_judged : {values : List ℕ} {decision place set : ℕ} → FirstMatch shown values place → decision ≡ (rule_at shown place).decision → set ≡ matching_set shown values
+      → Judged (record { rules = shown; notes = [] }) values decision place set
+  verdict_judged {values} {decision} {place} {set} first told all =
+      let is = first_is shown values place first in
+      judged (record { rules = shown; notes = [] }) values (subst (FirstMatch shown values) is first) (told ∙ ap (λ p. (rule_at shown p).decision) is) is all
 
 -- an edit of a kind's own decisions names a number that there is
-pub known_plain : {D : Type 0} (number : D → ℕ) (count : ℕ) → ((d : D) → number d < count) → (edit : Edit D) → Known count (plain_edit number edit)
+known_plain : {D : Type 0} (number : D → ℕ) (count : ℕ) → ((d : D) → number d < count) → (edit : Edit D) → Known count (plain_edit number edit)
 known_plain number count below (Change i d) = below d
 known_plain number count below (Swap i j) = tt
 known_plain number count below (Delete i) = tt
+
+-- a table's own rules can be read, as they are and under an edit that is not declined
+module _ (ranges : List Interval) (count : ℕ) (list : RuleList) (lawful : LawfulRanges ranges) (counted : 1 ≤ count) {kept : List Rule} (own : kept ≡ vec_items list.rules) where
+  pub readable : Readable ranges count kept None
+  readable = subst (λ rules. Readable ranges count rules None) (sym own) (record { lawful = list_lawful list ranges count lawful counted; taken = tt; known = tt })
+
+  pub readable_under : {D : Type 0} (number : D → ℕ) → ((d : D) → number d < count) → (edit : Edit D) {plain : Edit ℕ} → plain ≡ plain_edit number edit
+      → edit_decline (cut ranges count (vec_items list.rules)) (plain_edit number edit) ≡ None → Readable ranges count kept (Some plain)
+  readable_under number below edit same taken =
+      let given : Readable ranges count (vec_items list.rules) (Some (plain_edit number edit)) = record { lawful = list_lawful list ranges count lawful counted; taken = taken; known = known_plain number count below edit } in
+      subst (λ e. Readable ranges count kept (Some e)) (sym same) (subst (λ rules. Readable ranges count rules (Some (plain_edit number edit))) (sym own) given)
+
+-- what is not declined is there
+pub ok_of : {A : Type 0} (r : Result A Decline) → declined r ≡ None → IsOk r
+ok_of (Ok a) h = refl
+ok_of (Err d) h = cc

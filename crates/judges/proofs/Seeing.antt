@@ -1,5 +1,5 @@
 -- What stands at each place of a table under an edit. Assumes nothing.
-use Rattle.std.proofs.Common.{◌≡◌, ℕ, ◌+◌, ◌-◌, ◌<◌, ◌≤◌, min, cond, eqb, List, [], length, get_or, set, Some, None, Option, sym, refl, ap, ◌∙◌, ⊎_elim, arith}
+use Rattle.std.proofs.Common.{◌≡◌, ℕ, ◌+◌, ◌-◌, ◌<◌, ◌≤◌, min, cond, eqb, List, length, get_or, set, Some, None, Option, sym, refl, ap, ◌∙◌, ⊎_elim, arith}
 use Rattle.std.specs.List.{swap}
 use Rattle.std.proofs.lemmas.List.Edits.{length-remove, get_or-remove_below, get_or-remove_above, length-swap, swapped_from_swap}
 use Rattle.std.proofs.lemmas.List.{get_or-set_same, get_or-set_other, length-set}
@@ -13,10 +13,8 @@ use Rattle.rules.specs.Limits.{ranges_in}
 use Rattle.rules.specs.Rules.{rule_at, cut_clauses}
 use Rattle.tables.proofs.Declining.{change_taken, swap_taken, delete_taken}
 use Rattle.tables.proofs.Cuts.{length_cut, rule_at_cut}
+use Rattle.judges.proofs.Blank.{blank}
 use Rattle.judges.specs.Views.{under, Taken, in_force, seen, Viewable, source_of, count_under, decision_under}
-
-abbrev blank : Rule
-blank = record { clauses = []; decision = 0 }
 
 pub length_under : (edit : Option (Edit ℕ)) (rules : List Rule) → Taken edit rules → length (under edit rules) ≡ count_under edit (length rules)
 length_under None rules t = refl

@@ -4,7 +4,7 @@ ghost use Rattle.tables.specs.Tables.{table_rules};
 ghost use Rattle.judges.specs.Scans.{scan_meaning};
 ghost use Rattle.tables.proofs.Cuts.{list_lawful};
 
-use crate::field_value::no_layer;
+use crate::field_value::check_value;
 use crate::judge::Judge;
 use crate::reading::verdict;
 use crate::verdict::Verdict;
@@ -37,15 +37,12 @@ impl<Q: RequestKind, D: DecisionKind> Judge for Scan<Q, D> {
     ghost lawful = { λ j. list_lawful j.table.list Q.RequestKind.ranges D.DecisionKind.count Q.RequestKind.ranged D.DecisionKind.counted.0 };
 
     fn judge(&self, request: &Q) -> Verdict<D> {
-        verdict(self.table.rules(), &None, request)
+        verdict(self.table.rules(), None, request)
     }
 
     fn judge_under(&self, request: &Q, edit: &Edit<D>) -> Result<Verdict<D>, Decline> {
-        if let Some(decline) = self.table.edit_decline(edit) {
-            return Err(decline);
-        }
-        let plain = Some(edit.plain());
-        Ok(verdict(self.table.rules(), &plain, request))
+        self.table.check_edit(edit)?;
+        Ok(verdict(self.table.rules(), Some(edit.plain()), request))
     }
 
     fn edit(&mut self, edit: &Edit<D>) -> Result<(), Decline> {
@@ -61,11 +58,11 @@ impl<Q: RequestKind, D: DecisionKind> Judge for Scan<Q, D> {
     }
 
     fn withdraw(&mut self, field: usize, value: u32) -> Result<(), Decline> {
-        Err(no_layer::<Q>(field, value))
+        check_value::<Q>(field, value)?;
+        Err(Decline::NoWithdrawalLayer)
     }
 
     fn give_back(&mut self, field: usize, value: u32) -> Result<(), Decline> {
-        let declined = no_layer::<Q>(field, value);
-        Err(declined)
+        self.withdraw(field, value)
     }
 }
