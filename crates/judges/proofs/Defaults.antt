@@ -1,5 +1,5 @@
 -- The default under an edit: it still matches every request, so that some rule always does. Assumes nothing.
-use Rattle.std.proofs.Common.{◌≡◌, ℕ, ◌-◌, ◌<◌, ◌≤◌, true, eqb, List, [], length, Some, None, Option, refl, ap, ◌∙◌, arith}
+use Rattle.std.proofs.Common.{◌≡◌, ℕ, ◌-◌, ◌<◌, ◌≤◌, true, eqb, List, length, Some, None, Option, refl, ap, ◌∙◌, arith}
 use Rattle.std.proofs.ByRecursion.{All-get_or}
 use Rattle.std.proofs.lemmas.Bool.{cond_both}
 use Rattle.tables.specs.declared.edit.Edit.{Edit}
@@ -9,15 +9,16 @@ use Rattle.rules.specs.declared.rule.Rule.{Rule}
 use Rattle.rules.specs.Intervals.{within}
 use Rattle.rules.specs.Rules.{matches, rule_at, Lawful, LawfulRule}
 use Rattle.tables.proofs.Declining.{change_taken, swap_taken, delete_taken}
-use Rattle.tables.proofs.Kept.{change_end, swap_end, delete_end}
+use Rattle.std.proofs.lemmas.Grind.{elements}
 use Rattle.judges.specs.Views.{under, Taken, KnownIn, source_of, count_under, decision_under}
+use Rattle.judges.proofs.Firsts.{blank}
 use Rattle.judges.proofs.Seeing.{stands, length_under}
 
 same_end : (edit : Option (Edit ℕ)) (rules : List Rule) → Taken edit rules → (rule_at (under edit rules) (length (under edit rules))).clauses ≡ (rule_at rules (length rules)).clauses
 same_end None rules t = refl
-same_end (Some (Change i d)) rules t = let asks = change_taken (length rules) i (rule_at rules i).decision d t in change_end rules i d asks.0 asks.1
-same_end (Some (Swap i j)) rules t = let asks = swap_taken (length rules) i j t in swap_end rules i j asks.0 asks.1 asks.2
-same_end (Some (Delete i)) rules t = let asks = delete_taken (length rules) i t in delete_end rules i asks.0 asks.1
+same_end (Some (Change i d)) rules t = let asks = change_taken (length rules) i (rule_at rules i).decision d t in grind (arith, elements)
+same_end (Some (Swap i j)) rules t = let asks = swap_taken (length rules) i j t in grind (arith, elements)
+same_end (Some (Delete i)) rules t = let asks = delete_taken (length rules) i t in grind (arith, elements)
 
 some_left : (edit : Option (Edit ℕ)) (rules : List Rule) → Taken edit rules → 1 ≤ length rules → 1 ≤ count_under edit (length rules)
 some_left None rules t some = some
@@ -45,7 +46,7 @@ module _ (ranges : List Interval) (count : ℕ) (rules : List Rule) (edit : Opti
       let both = stands edit rules p taken low high in
       let s = source_of edit p in
       let inside = both.1 in
-      let own = (All-get_or (LawfulRule ranges count) rules (s - 1) (record { clauses = []; decision = 0 }) (omega arith) lawful.each).1 in
+      let own = (All-get_or (LawfulRule ranges count) rules (s - 1) blank (omega arith) lawful.each).1 in
       let is = ap (λ r. r.decision) both.0 in
       let below = below_under edit count p (rule_at rules s).decision known own in
       omega arith

@@ -12,7 +12,10 @@ use Rattle.std.proofs.Math.Nat.{pow-succ'}
 use Rattle.rules.specs.declared.rule.Rule.{Rule}
 use Rattle.rules.specs.Rules.{matches, rule_at}
 use Rattle.judges.specs.Matches.{FirstMatch, first_match, matching_set}
-use Rattle.judges.proofs.Blank.{blank}
+
+-- what `rule_at` reads where there is no rule
+abbrev pub blank : Rule
+blank = record { clauses = []; decision = 0 }
 
 -- the computed place, in std's words
 first_at : (rules : List Rule) (values : List ℕ) → first_match rules values ≡ suc (position_or_len (λ rule. matches rule values) rules)

@@ -1,4 +1,3 @@
-pub mod Blank
 pub mod Defaults
 pub mod Firsts
 pub mod Judging

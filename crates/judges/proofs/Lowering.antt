@@ -1,6 +1,6 @@
 -- What notes do to a decision, over any pile of them. Assumes nothing.
 use Rattle.std.proofs.Common.{◌≡◌, ℕ, ◌≤◌, min, Bool, true, false, cond, List, [], ◌∷◌, ◌++◌, Some, None, Option, sym, refl, ap, ◌∙◌, ⊎_elim, le_trans, arith}
-use Rattle.std.proofs.lemmas.Bool.{or_cases, or_parts, cond_both, both_ways}
+use Rattle.std.proofs.lemmas.Bool.{or_cases, or_parts, cond_both}
 use Rattle.rules.specs.Intervals.{inside}
 use Rattle.rules.specs.Kinds.{of_field}
 use Rattle.judges.specs.declared.window.Window.{Window}
@@ -26,14 +26,14 @@ lowered_less (note ∷ notes) values decision =
 
 -- a note refuses what bears one of its values
 kept_refused : (note : Note) (value : Option ℕ) (decision : ℕ) → bears_kept note value ≡ true → noted_value note value decision ≡ 0
-kept_refused (withdrawals field kept) None decision h = absurd (both_ways true (sym h) refl)
-kept_refused (windows field list) None decision h = absurd (both_ways true (sym h) refl)
+kept_refused (withdrawals field kept) None decision h = cc
+kept_refused (windows field list) None decision h = cc
 kept_refused (withdrawals field kept) (Some value) decision h = ap (λ b. cond b 0 decision) h
-kept_refused (windows field list) (Some value) decision h = absurd (both_ways true (sym h) refl)
+kept_refused (windows field list) (Some value) decision h = cc
 
 -- and refused it stays
 pub lowered_refused : (notes : List Note) (values : List ℕ) (decision : ℕ) → bears_withdrawn notes values ≡ true → lowered notes values decision ≡ 0
-lowered_refused [] values decision h = absurd (both_ways true (sym h) refl)
+lowered_refused [] values decision h = cc
 lowered_refused (note ∷ notes) values decision h =
     let value = of_field values (note_field note) in
     ⊎_elim

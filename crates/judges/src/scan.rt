@@ -57,11 +57,13 @@ impl<Q: RequestKind, D: DecisionKind> Judge for Scan<Q, D> {
         self.table.decision_at(place)
     }
 
+    // A scan has no layer that could keep the value.
     fn withdraw(&mut self, field: usize, value: u32) -> Result<(), Decline> {
         check_value::<Q>(field, value)?;
         Err(Decline::NoWithdrawalLayer)
     }
 
+    // For want of a layer, giving back is declined as withdrawing is.
     fn give_back(&mut self, field: usize, value: u32) -> Result<(), Decline> {
         self.withdraw(field, value)
     }

@@ -55,7 +55,7 @@ fn decision_after(edit: Option<Edit<u8>>, place: usize, own: u8) -> u8
     }
 }
 
-// A clause sees the rules as the edit would leave them, cut to the limits.
+// The rules of a table, an edit that may be made of them, and the limits that they are cut to. A clause sees the rules that come of it.
 #[derive(Drop)]
 pub(crate) struct View<'a> {
     rules: &'a [Rule],
@@ -104,6 +104,7 @@ impl<'a> View<'a> {
     }
 
     // The place of the first rule that matches, from the top; None where none does.
+    // The range is not written 1..=: std has its lemma on `find` for a half-open range alone.
     pub(crate) fn first_match(&self, values: &[u32]) -> Option<usize>
         ensures { MatchOption result ((p : ℕ) → 1 ≤ p → p ≤ length self.now → matches (rule_at self.now p) values.now ≡ false) (FirstMatch self.now values.now) }
     {
@@ -129,7 +130,7 @@ impl<'a> View<'a> {
         ensures { result ≡ (rule_at self.now place).decision }
     {
         let kept = self.rules[source(self.edit, place) - 1].decision;
-        let greatest = self.limits.decisions() - 1;
-        decision_after(self.edit, place, usize::from(kept).min(greatest) as u8)
+        let greatest = (self.limits.decisions() - 1) as u8;
+        decision_after(self.edit, place, kept.min(greatest))
     }
 }

@@ -1,7 +1,7 @@
 // A window of a window layer: inside the interval, both ends included, a decision is lowered to the cap if that is stricter.
 use rules::interval::Interval;
 
-#[derive(Clone, Copy)]
+#[derive(Clone, Copy, PartialEq, Eq, Debug)]
 pub struct Window {
     pub interval: Interval,
     pub cap: u8,
