@@ -1,5 +1,5 @@
 -- What stands at each place of a table under an edit. Assumes nothing.
-use Rattle.std.proofs.Common.{◌≡◌, ℕ, ◌+◌, ◌-◌, ◌<◌, ◌≤◌, min, List, length, Some, None, Option, refl, ap, ◌∙◌, arith}
+use Rattle.std.proofs.Common.{◌≡◌, ℕ, ◌+◌, ◌-◌, ◌<◌, ◌≤◌, min, List, length, Some, None, Option, sym, refl, ap, ◌∙◌, arith}
 use Rattle.std.proofs.lemmas.List.Edits.{length-remove, length-swap}
 use Rattle.std.proofs.lemmas.List.{length-set}
 use Rattle.tables.specs.declared.edit.Edit.{Edit}
@@ -52,16 +52,13 @@ stands (Some (Delete i)) rules p t low high =
     let long = length_under (Some (Delete i)) rules t in
     deleted rules i p asks low (omega arith)
 
--- what stands at a place that is seen, in terms of the rules as kept
-module _ (rules : List Rule) (edit : Option (Edit ℕ)) (limits : Limits) (view : Viewable rules edit limits) where
-  module _ (p : ℕ) (low : 1 ≤ p) (high : p ≤ length (seen rules edit limits)) where
-    both : Stands edit (in_force rules limits) p × In edit (in_force rules limits) p
-    both = stands edit (in_force rules limits) p view.taken low high
-
-    source_in : (1 ≤ source_of edit p) × (source_of edit p ≤ length rules)
-    source_in = let n = length_cut (ranges_in limits) limits.decisions rules in let i = both.1 in (i.0, omega arith)
-
-    pub seen_rule : rule_at (seen rules edit limits) p
-        ≡ record { clauses = cut_clauses (ranges_in limits) (rule_at rules (source_of edit p)).clauses; decision = decision_under edit p (min (rule_at rules (source_of edit p)).decision (limits.decisions - 1)) }
-    seen_rule =
-        both.0 ∙ ap (λ r. with_decision r (decision_under edit p r.decision)) (rule_at_cut (ranges_in limits) limits.decisions rules (source_of edit p) source_in.0 source_in.1)
+-- what stands at a place of the rules that are seen, in terms of the rules as kept
+pub seen_rule : (rules : List Rule) (edit : Option (Edit ℕ)) (limits : Limits) {shown : List Rule} (p : ℕ) → Viewable rules edit limits → seen rules edit limits ≡ shown → 1 ≤ p → p ≤ length shown
+    → rule_at shown p ≡ record { clauses = cut_clauses (ranges_in limits) (rule_at rules (source_of edit p)).clauses; decision = decision_under edit p (min (rule_at rules (source_of edit p)).decision (limits.decisions - 1)) }
+seen_rule rules edit limits p view is low high =
+    let long = ap length is in
+    let both = stands edit (in_force rules limits) p view.taken low (omega arith) in
+    let inside = both.1 in
+    let kept = length_cut (ranges_in limits) limits.decisions rules in
+    ap (λ l. rule_at l p) (sym is) ∙ both.0
+    ∙ ap (λ r. with_decision r (decision_under edit p r.decision)) (rule_at_cut (ranges_in limits) limits.decisions rules (source_of edit p) (omega arith) (omega arith))

@@ -15,7 +15,7 @@ fn count_after(edit: Option<Edit<u8>>, count: usize) -> usize
     ensures { result ≡ count_under edit count }
 {
     match edit {
-        Some(Edit::Delete { place: _ }) => count.saturating_sub(1),
+        Some(Edit::Delete { .. }) => count.saturating_sub(1),
         _ => count,
     }
 }
@@ -26,16 +26,9 @@ fn source(edit: Option<Edit<u8>>, place: usize) -> usize
     ensures { result ≡ source_of edit place }
 {
     match edit {
-        Some(Edit::Swap { first, second }) => {
-            if place == first {
-                second
-            } else if place == second {
-                first
-            } else {
-                place
-            }
-        }
-        Some(Edit::Delete { place: gone }) => { if place < gone { place } else { place + 1 } }
+        Some(Edit::Swap { first, second }) if place == first => second,
+        Some(Edit::Swap { first, second }) if place == second => first,
+        Some(Edit::Delete { place: gone }) if place >= gone => place + 1,
         _ => place,
     }
 }
@@ -50,7 +43,7 @@ fn decision_after(edit: Option<Edit<u8>>, place: usize, own: u8) -> u8
                 place: changed,
                 decision,
             },
-        ) => { if place == changed { decision } else { own } }
+        ) if place == changed => decision,
         _ => own,
     }
 }
