@@ -42,7 +42,7 @@ impl<Q: RequestKind, D: DecisionKind> Judge for Scan<Q, D> {
 
     fn judge_under(&self, request: &Q, edit: &Edit<D>) -> Result<Verdict<D>, Decline> {
         self.table.check_edit(edit)?;
-        Ok(verdict(self.table.rules(), Some(edit.plain()), request))
+        Ok(verdict(self.table.rules(), Some(Edit::from(edit)), request))
     }
 
     fn edit(&mut self, edit: &Edit<D>) -> Result<(), Decline> {
