@@ -1,66 +1,58 @@
--- Kept values and windows, one after the other: the index of a value, and the smallest cap. Assumes nothing.
-use Rattle.std.proofs.Common.{◌≡◌, ℕ, suc, ◌+◌, ◌<◌, ◌≤◌, min, Bool, true, false, cond, ◌||◌, eqb, ltb, List, [], ◌∷◌, length, get_or, drop, sym, refl, ap, ◌∙◌, ⊎_elim, arith}
-use Rattle.std.proofs.lemmas.List.{drop_more, drop_all}
-use Rattle.std.proofs.lemmas.Bool.{lt-ltb, le-ltb, cases_lt}
-use Rattle.rules.specs.Intervals.{inside, from_to}
+-- What layers keep, read by the words of std for lists. Assumes nothing.
+use Rattle.std.proofs.Common.{◌≡◌, ℕ, min, Bool, true, false, cond, ◌||◌, eqb, List, [], ◌∷◌, map, filter, fold, Some, suc, not, is_some, position, remove, All, AllPairs, ◌≢◌, ◌+◌, ⊎_elim, get_or, ne_eqb, refl, sym, ap, ◌∙◌, arith}
+use Rattle.std.specs.List.{list_any, position_or_len}
+use Rattle.std.proofs.lemmas.List.Edits.{length-remove, get_or-remove_below, get_or-remove_above}
+use Rattle.std.proofs.lemmas.Bool.{cases_lt, eqb-true}
+use Rattle.std.proofs.lemmas.Grind.{common_steps}
+use Rattle.std.proofs.lemmas.List.Folds.{list_any_none}
+use Rattle.std.proofs.lemmas.List.Quantifiers.{position-Some}
+use Rattle.std.proofs.lemmas.List.Recursion.{same_from_clauses}
+use Rattle.rules.specs.Intervals.{inside}
 use Rattle.judges.specs.declared.window.Window.{Window}
-use Rattle.layers.specs.Keeping.{index_of}
-use Rattle.judges.specs.Notes.{holds_value, cap_inside}
+use Rattle.judges.specs.Notes.{holds_value, cap_inside, without}
 
--- none of the first k values equals this one
-abbrev pub NoneBefore : List ℕ → ℕ → ℕ → Type 0
-NoneBefore values value k = index_of values value ≡ k + index_of (drop k values) value
+pub holds_any : (values : List ℕ) (value : ℕ) → holds_value values value ≡ list_any (λ x. eqb x value) values
+holds_any values value = same_from_clauses (λ l. holds_value l value) (list_any (λ x. eqb x value)) (λ x b. eqb x value || b) refl (λ _ _. refl) (λ _ _. refl) values
 
-pub index_step : (values : List ℕ) (value k : ℕ) (t : Bool) → k < length values → eqb (get_or values k 0) value ≡ t → NoneBefore values value k
-    → index_of values value ≡ k + cond t 0 (suc (index_of (drop (k + 1) values) value))
-index_step values value k t here test so_far =
-    so_far ∙ ap (λ l. k + index_of l value) (drop_more values k 0 here) ∙ ap (λ b. k + cond b 0 (suc (index_of (drop (k + 1) values) value))) test
+-- a value is held exactly where it has a position
+pub holds_position : (values : List ℕ) (value : ℕ) → holds_value values value ≡ is_some (position (λ x. eqb x value) values)
+holds_position [] value = refl
+holds_position (x ∷ xs) value = grind (arith, common_steps, holds_position xs value)
 
-pub index_end : (values : List ℕ) (value k : ℕ) → length values ≤ k → NoneBefore values value k → index_of values value ≡ k
-index_end values value k end so_far = so_far ∙ ap (λ l. k + index_of l value) (drop_all k values end) ∙ omega arith
+-- and is taken out there
+without_first : (values : List ℕ) (value : ℕ) → without values value ≡ remove values (position_or_len (λ x. eqb x value) values)
+without_first [] value = refl
+without_first (x ∷ xs) value = cases (eqb x value) (1 + position_or_len (λ y. eqb y value) xs) (omega arith) (without_first xs value)
+  where
+    cases : (b : Bool) (next : ℕ) → next ≡ suc (position_or_len (λ y. eqb y value) xs) → without xs value ≡ remove xs (position_or_len (λ y. eqb y value) xs)
+        → cond b xs (x ∷ without xs value) ≡ remove (x ∷ xs) (cond (not b) next 0)
+    cases true next is later = refl
+    cases false next is later = rw is (ap (λ l. x ∷ l) later)
 
-ltb_suc : (i n : ℕ) → ltb i n ≡ ltb (suc i) (suc n)
-ltb_suc i n =
-    ⊎_elim
-    (λ lt. lt-ltb i n lt ∙ sym (lt-ltb (suc i) (suc n) (omega arith)))
-    (λ ge. le-ltb i n ge ∙ sym (le-ltb (suc i) (suc n) (omega arith)))
-    (cases_lt i n)
+pub without_position : (values : List ℕ) (value index : ℕ) → position (λ x. eqb x value) values ≡ Some index → without values value ≡ remove values index
+without_position values value index at = grind (arith, without_first values value)
 
--- a value is kept exactly when it has an index
-holds_step : (b : Bool) (rest : Bool) (i n : ℕ) → rest ≡ ltb i n → (b || rest) ≡ ltb (cond b 0 (suc i)) (suc n)
-holds_step true rest i n h = sym (lt-ltb 0 (suc n) (omega arith))
-holds_step false rest i n h = h ∙ ltb_suc i n
-
-pub holds_index : (values : List ℕ) (value : ℕ) → holds_value values value ≡ ltb (index_of values value) (length values)
-holds_index [] value = sym (le-ltb 0 0 (omega arith))
-holds_index (x ∷ xs) value = holds_step (eqb x value) (holds_value xs value) (index_of xs value) (length xs) (holds_index xs value)
+-- of values none of which stands twice, one taken out is held no more
+pub gone : (values : List ℕ) (value index : ℕ) → AllPairs (λ x y. x ≢ y) values → position (λ x. eqb x value) values ≡ Some index → holds_value (remove values index) value ≡ false
+gone values value index apart at =
+    holds_any (remove values index) value ∙ list_any_none (λ x. eqb x value) (remove values index) other
+  where
+    other : All (λ x. eqb x value ≡ false) (remove values index)
+    other k d here =
+        let first = position-Some (λ x. eqb x value) values index d at in
+        let last = length-remove values index first.0 in
+        ⊎_elim
+        (λ before. ap (λ x. eqb x value) (get_or-remove_below values index d k before first.0) ∙ first.2 k before)
+        (λ behind. ap (λ x. eqb x value) (get_or-remove_above values index d k behind first.0)
+            ∙ ne_eqb (get_or values (k + 1) d) value (λ same. apart index (k + 1) d (omega arith) (omega arith) (eqb-true (get_or values index d) value first.1 ∙ sym same)))
+        (cases_lt k index)
 
 -- lowering first and capping then is capping first
 cap_after : (list : List Window) (value decision cap : ℕ) → cap_inside list value (min decision cap) ≡ min cap (cap_inside list value decision)
 cap_after [] value decision cap = omega arith
-cap_after (w ∷ ws) value decision cap = cases (inside w.interval value) (cap_after ws value decision cap)
-  where
-    cases : (b : Bool) → cap_inside ws value (min decision cap) ≡ min cap (cap_inside ws value decision)
-        → cond b (min w.cap (cap_inside ws value (min decision cap))) (cap_inside ws value (min decision cap)) ≡ min cap (cond b (min w.cap (cap_inside ws value decision)) (cap_inside ws value decision))
-    cases true h = omega arith
-    cases false h = h
+cap_after (w ∷ ws) value decision cap = grind (arith, cap_after ws value decision cap)
 
-abbrev blank : Window
-blank = record { interval = from_to 0 0; cap = 0 }
-
--- the windows so far made `least` of the number
-abbrev pub Capped : List Window → ℕ → ℕ → ℕ → ℕ → Type 0
-Capped list value number least k = cap_inside list value number ≡ cap_inside (drop k list) value least
-
-one_more : (list : List Window) (value least k : ℕ) (b : Bool) → cond b (min (get_or list k blank).cap (cap_inside (drop (k + 1) list) value least)) (cap_inside (drop (k + 1) list) value least)
-    ≡ cap_inside (drop (k + 1) list) value (cond b (min least (get_or list k blank).cap) least)
-one_more list value least k true = sym (cap_after (drop (k + 1) list) value least (get_or list k blank).cap)
-one_more list value least k false = refl
-
-pub capped_more : (list : List Window) (value number least k now : ℕ) → k < length list
-    → now ≡ cond (inside (get_or list k blank).interval value) (min least (get_or list k blank).cap) least → Capped list value number least k → Capped list value number now (k + 1)
-capped_more list value number least k now here is so_far =
-    so_far ∙ ap (λ l. cap_inside l value least) (drop_more list k blank here) ∙ one_more list value least k (inside (get_or list k blank).interval value) ∙ ap (cap_inside (drop (k + 1) list) value) (sym is)
-
-pub capped_end : (list : List Window) (value number least k : ℕ) → length list ≤ k → Capped list value number least k → cap_inside list value number ≡ least
-capped_end list value number least k end so_far = so_far ∙ ap (λ l. cap_inside l value least) (drop_all k list end)
+-- the caps of the windows that hold a value, taken one after the other, come to what the note makes of the decision
+pub caps_in_turn : (list : List Window) (value decision : ℕ) → cap_inside list value decision ≡ fold min decision (map (λ w. w.cap) (filter (λ w. inside w.interval value) list))
+caps_in_turn [] value decision = refl
+caps_in_turn (w ∷ ws) value decision = grind (arith, caps_in_turn ws value decision, caps_in_turn ws value (min decision w.cap), cap_after ws value decision w.cap)

@@ -1,34 +1,22 @@
 // Keeping windows: a request inside some of them is lowered to their smallest cap, if that is stricter.
-ghost use Rattle.std.specs.Prelude.{◌≡◌, min, if◌then◌else◌};
+ghost use Rattle.std.specs.Prelude.{◌≡◌, min, map, filter, fold};
 ghost use Rattle.rules.specs.Intervals.{inside};
 ghost use Rattle.layers.specs.Kept.{windows_note};
-ghost use Rattle.judges.specs.Notes.{cap_inside};
 
 use crate::keeper::Keeper;
 use crate::kept_windows::KeptWindows;
 use judges::window::Window;
 use rules::decline::Decline;
 
-// The lesser of a decision's number and the window's cap, where the window holds the value.
-fn capped(window: &Window, value: u32, number: u8) -> u8
-    ensures { result ≡ (if inside window.now.interval value then min number window.now.cap else number) }
-{
-    if window.interval.holds(value) {
-        number.min(window.cap)
-    } else {
-        number
-    }
-}
-
 // The least of a decision's number and the caps of the windows that hold the value.
 fn least_cap(windows: &[Window], value: u32, number: u8) -> u8
-    ensures { result ≡ cap_inside windows.now value number }
+    ensures { result ≡ fold min number (map (λ w. w.cap) (filter (λ w. inside w.interval value) windows.now)) }
 {
-    let mut least = number;
-    for window in windows {
-        least = capped(window, value, least);
-    }
-    least
+    windows
+        .iter()
+        .filter(|window| window.interval.holds(value))
+        .map(|window| window.cap)
+        .fold(number, u8::min)
 }
 
 // Windows keep no withdrawn values, so withdrawing and giving back are for the judge below.
@@ -39,17 +27,16 @@ impl Keeper for KeptWindows {
         self.field
     }
 
+    #[tactic(auto, using(crate::proofs::KeptLists::caps_in_turn))]
     fn lower(&self, value: u32, number: u8) -> u8 {
-        least_cap(self.windows.as_slice(), value, number)
+        least_cap(&self.items, value, number)
     }
 
-    fn withdraw(&mut self, field: usize, value: u32) -> Option<Result<(), Decline>> {
-        let _ = (field, value);
+    fn withdraw(&mut self, _field: usize, _value: u32) -> Option<Result<(), Decline>> {
         None
     }
 
-    fn give_back(&mut self, field: usize, value: u32) -> Option<Result<(), Decline>> {
-        let _ = (value, field);
+    fn give_back(&mut self, _field: usize, _value: u32) -> Option<Result<(), Decline>> {
         None
     }
 }

@@ -6,7 +6,7 @@ ghost use Rattle.judges.specs.Meanings.{Meaning, VerdictOn, JudgedUnder, over};
 ghost use Rattle.std.proofs.Common.{rules};
 
 use crate::keeper::Keeper;
-use judges::field_value::value_decline;
+use judges::field_value::check_value;
 use judges::judge::Judge;
 use judges::verdict::Verdict;
 use rules::decline::Decline;
@@ -89,9 +89,7 @@ impl<N: Keeper, J: Judge> Judge for Layer<N, J> {
     }
 
     fn withdraw(&mut self, field: usize, value: u32) -> Result<(), Decline> {
-        if let Some(decline) = value_decline::<J::Request>(field, value) {
-            return Err(decline);
-        }
+        check_value::<J::Request>(field, value)?;
         match self.kept.withdraw(field, value) {
             Some(done) => done,
             None => self.below.withdraw(field, value),
@@ -99,9 +97,7 @@ impl<N: Keeper, J: Judge> Judge for Layer<N, J> {
     }
 
     fn give_back(&mut self, field: usize, value: u32) -> Result<(), Decline> {
-        if let Some(decline) = value_decline::<J::Request>(field, value) {
-            return Err(decline);
-        }
+        check_value::<J::Request>(field, value)?;
         match self.kept.give_back(field, value) {
             Some(done) => done,
             None => self.below.give_back(field, value),

@@ -3,6 +3,7 @@
 #![tactic(auto)]
 
 pub mod capping;
+pub mod field_list;
 pub mod keeper;
 pub mod kept_values;
 pub mod kept_windows;

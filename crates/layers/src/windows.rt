@@ -1,6 +1,6 @@
 // A window layer: set up on a field, it takes up to 8 windows before it is piled; a request inside windows is lowered
 // to their smallest cap, if that is stricter.
-ghost use Rattle.std.specs.Prelude.{◌≡◌, true, [], is_some, IfOk, IfErr, nat_le};
+ghost use Rattle.std.specs.Prelude.{◌≡◌, true, [], is_some, IfOk, IfErr};
 ghost use Rattle.rules.specs.Declines.{declined};
 ghost use Rattle.rules.specs.Kinds.{of_field};
 ghost use Rattle.layers.specs.Kept.{windows_note};
@@ -8,6 +8,7 @@ ghost use Rattle.layers.specs.Layers.{layer_meaning, set_up_decline, ends_declin
 ghost use Rattle.judges.specs.Meanings.{over};
 ghost use Rattle.judges.specs.Notes.{windows as NoteOfWindows};
 
+use crate::field_list::FieldList;
 use crate::kept_windows::KeptWindows;
 use crate::layer::Layer;
 use judges::judge::Judge;
@@ -24,21 +25,12 @@ pub struct Windows<Q, D> {
     kinds: PhantomData<(Q, D)>,
 }
 
-// A layer keeps 8 windows.
-fn is_full(count: usize) -> bool
-    ensures { result ≡ nat_le 8 count }
+// Checks the ends of a window on a field, as a rule's clause is checked.
+fn check_ends<Q: RequestKind>(field: usize, interval: &Interval) -> Result<(), Decline>
+    ensures { declined result ≡ ends_decline (of_field Q.RequestKind.ranges field) interval.now }
 {
-    count >= 8
-}
-
-// How the ends of a window on a field are declined.
-fn ends_decline<Q: RequestKind>(field: usize, interval: &Interval) -> Option<Decline>
-    ensures { result ≡ ends_decline (of_field Q.RequestKind.ranges field) interval.now }
-{
-    match Q::range(field) {
-        Some(range) => interval.decline_in(&range),
-        None => Some(Decline::NoSuchField),
-    }
+    let range = Q::range(field).ok_or(Decline::NoSuchField)?;
+    interval.check_in(&range)
 }
 
 impl<Q: RequestKind, D: DecisionKind> Windows<Q, D> {
@@ -48,34 +40,27 @@ impl<Q: RequestKind, D: DecisionKind> Windows<Q, D> {
         ensures made { IfOk result (λ w. (is_some (of_field Q.RequestKind.ranges field) ≡ true) × (windows_note w.kept ≡ NoteOfWindows field [])) }
         ensures declines { IfErr result (λ decline. decline ≡ set_up_decline (of_field Q.RequestKind.ranges field)) }
     {
-        if Q::range(field).is_none() {
-            return Err(Decline::NoSuchField);
-        }
-        match Vec::with_capacity(heap, 8) {
-            Ok(windows) => Ok(Windows {
-                kept: KeptWindows { field, windows },
-                kinds: PhantomData,
-            }),
-            Err(_) => Err(Decline::NoMemory),
-        }
+        let kept = FieldList::on::<Q>(heap, field)?;
+        Ok(Windows {
+            kept,
+            kinds: PhantomData,
+        })
     }
 
     // Adds a window, both ends inside it, with its cap. Declined 7 where there are 8 already, then 5 for the lower end,
     // 5 for the upper, then 6; the layer is then as it was.
     pub fn add(&mut self, interval: Interval, cap: D) -> Result<(), Decline>
-        ensures { WindowAdded (of_field Q.RequestKind.ranges self.old.kept.field) self.old.kept.field self.old.kept.windows.items (record { interval = interval; cap = D.DecisionKind.number cap }) (declined result) (windows_note self.new.kept) }
+        ensures { WindowAdded (of_field Q.RequestKind.ranges self.old.kept.field) self.old.kept.field self.old.kept.items.items (record { interval = interval; cap = D.DecisionKind.number cap }) (declined result) (windows_note self.new.kept) }
     {
-        if is_full(self.kept.windows.len()) {
+        if self.kept.is_full() {
             return Err(Decline::Full);
         }
-        if let Some(decline) = ends_decline::<Q>(self.kept.field, &interval) {
-            return Err(decline);
-        }
+        check_ends::<Q>(self.kept.field, &interval)?;
         let window = Window {
             interval,
             cap: cap.number(),
         };
-        self.kept.windows.push_reserved(window);
+        self.kept.items.push_reserved(window);
         Ok(())
     }
 
@@ -83,7 +68,9 @@ impl<Q: RequestKind, D: DecisionKind> Windows<Q, D> {
     pub fn over<J: Judge<Request = Q, Decision = D>>(self, below: J) -> Layer<KeptWindows, J>
         ensures { layer_meaning windows_note J.Judge.meaning result ≡ over (windows_note self.kept) (J.Judge.meaning below) }
     {
-        let Windows { kept, kinds: _ } = self;
-        Layer { kept, below }
+        Layer {
+            kept: self.kept,
+            below,
+        }
     }
 }

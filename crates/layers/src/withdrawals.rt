@@ -6,6 +6,7 @@ ghost use Rattle.layers.specs.Layers.{layer_meaning, set_up_decline};
 ghost use Rattle.judges.specs.Meanings.{over};
 ghost use Rattle.judges.specs.Notes.{withdrawals as NoteOfValues};
 
+use crate::field_list::FieldList;
 use crate::kept_values::KeptValues;
 use crate::layer::Layer;
 use judges::judge::Judge;
@@ -27,23 +28,20 @@ impl<Q: RequestKind> Withdrawals<Q> {
         ensures made { IfOk result (λ w. (is_some (of_field Q.RequestKind.ranges field) ≡ true) × (values_note w.kept ≡ NoteOfValues field [])) }
         ensures declines { IfErr result (λ decline. decline ≡ set_up_decline (of_field Q.RequestKind.ranges field)) }
     {
-        if Q::range(field).is_none() {
-            return Err(Decline::NoSuchField);
-        }
-        match Vec::with_capacity(heap, 32) {
-            Ok(values) => Ok(Withdrawals {
-                kept: KeptValues { field, values },
-                kind: PhantomData,
-            }),
-            Err(_) => Err(Decline::NoMemory),
-        }
+        let list = FieldList::on::<Q>(heap, field)?;
+        Ok(Withdrawals {
+            kept: KeptValues { list },
+            kind: PhantomData,
+        })
     }
 
     // Piles the layer on a judge of its kind, which it takes. It is never declined.
     pub fn over<J: Judge<Request = Q>>(self, below: J) -> Layer<KeptValues, J>
         ensures { layer_meaning values_note J.Judge.meaning result ≡ over (values_note self.kept) (J.Judge.meaning below) }
     {
-        let Withdrawals { kept, kind: _ } = self;
-        Layer { kept, below }
+        Layer {
+            kept: self.kept,
+            below,
+        }
     }
 }

@@ -1,76 +1,57 @@
 // Keeping withdrawn values: a request that bears one of them is refused.
-ghost use Rattle.std.specs.Prelude.{◌≡◌, nat_le};
-ghost use Rattle.layers.specs.Keeping.{index_of};
+ghost use Rattle.std.specs.Prelude.{◌≡◌, ◌==◌, position};
 ghost use Rattle.layers.specs.Kept.{values_note};
-ghost use Rattle.judges.specs.Notes.{holds_value};
 
 use crate::keeper::Keeper;
 use crate::kept_values::KeptValues;
 use rules::decline::Decline;
 
-// The index of the first value that equals this one, or the length where there is none.
-fn index_of(values: &[u32], value: u32) -> usize
-    ensures { result ≡ index_of values.now value }
+// The index of the first value that equals this one, if there is one.
+fn index_of(values: &[u32], value: u32) -> Option<usize>
+    ensures { result ≡ position (λ x. x == value) values.now }
 {
-    for k in 0..values.len() {
-        if values[k] == value {
-            return k;
-        }
-    }
-    values.len()
-}
-
-fn holds(values: &[u32], value: u32) -> bool
-    ensures { result ≡ holds_value values.now value }
-{
-    index_of(values, value) < values.len()
-}
-
-// A note keeps 32 values.
-fn is_full(count: usize) -> bool
-    ensures { result ≡ nat_le 32 count }
-{
-    count >= 32
+    values.iter().position(|kept| *kept == value)
 }
 
 impl Keeper for KeptValues {
     ghost note = { values_note };
 
     fn field(&self) -> usize {
-        self.field
+        self.list.field
     }
 
+    #[tactic(auto, using(crate::proofs::KeptLists::holds_any))]
     fn lower(&self, value: u32, number: u8) -> u8 {
-        if holds(self.values.as_slice(), value) {
+        if self.list.items.contains(&value) {
             0
         } else {
             number
         }
     }
 
+    #[tactic(auto, using(crate::proofs::KeptLists::holds_any))]
     fn withdraw(&mut self, field: usize, value: u32) -> Option<Result<(), Decline>> {
-        if field != self.field {
+        if field != self.list.field {
             return None;
         }
-        if holds(self.values.as_slice(), value) {
+        if self.list.items.contains(&value) {
             return Some(Err(Decline::AlreadyWithdrawn));
         }
-        if is_full(self.values.len()) {
+        if self.list.is_full() {
             return Some(Err(Decline::NoteFull));
         }
-        self.values.push_reserved(value);
+        self.list.items.push_reserved(value);
         Some(Ok(()))
     }
 
     fn give_back(&mut self, field: usize, value: u32) -> Option<Result<(), Decline>> {
-        if field != self.field {
+        if field != self.list.field {
             return None;
         }
-        let index = index_of(self.values.as_slice(), value);
-        if index >= self.values.len() {
+        let Some(index) = index_of(&self.list.items, value) else {
             return Some(Err(Decline::NotWithdrawn));
-        }
-        let _ = self.values.remove(index);
+        };
+        let _ = self.list.items.remove(index);
         Some(Ok(()))
     }
 }
