@@ -1,19 +1,9 @@
 -- What a layer keeps, and its part in withdrawing and giving back. Assumes nothing.
-use Rattle.std.specs.Prelude.{◌≡◌, ℕ, suc, Bool, true, false, cond, not, ◌&&◌, List, [], ◌∷◌, Some, None, Option, Result, ◌==◌}
+use Rattle.std.specs.Prelude.{◌≡◌, ℕ, true, false, List, [], ◌∷◌, Some, None, Option, Result}
 use Rattle.rules.specs.declared.decline.Decline.{Decline}
 use Rattle.rules.specs.Declines.{declined, left_by}
 use Rattle.rules.specs.Kinds.{of_field}
-use Rattle.judges.specs.Notes.{Note, holds_value, bears_withdrawn, kept_on, keeps}
-
--- the index of the first value that equals this one, or the length where there is none
-abbrev pub index_of : List ℕ → ℕ → ℕ
-index_of [] value = 0
-index_of (x ∷ xs) value = cond (x == value) 0 (suc (index_of xs value))
-
--- no value stands twice
-abbrev pub distinct : List ℕ → Bool
-distinct [] = true
-distinct (x ∷ xs) = not (holds_value xs x) && distinct xs
+use Rattle.judges.specs.Notes.{Note, bears_withdrawn, kept_on, keeps}
 
 -- a call is the layer's own where its note keeps withdrawn values of that field; it then answers, else the judge below does
 abbrev pub if_own : Option (List ℕ) → Option Decline → Option (Option Decline)

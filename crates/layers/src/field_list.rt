@@ -23,7 +23,7 @@ impl<T, const N: usize> FieldList<T, N> {
         ensures made { IfOk result (λ list. (is_some (of_field Q.RequestKind.ranges field) ≡ true) × (list.field ≡ field) × (vec_items list.items ≡ [])) }
         ensures declines { IfErr result (λ decline. decline ≡ set_up_decline (of_field Q.RequestKind.ranges field)) }
     {
-        let _ = Q::range(field).ok_or(Decline::NoSuchField)?;
+        Q::range(field).ok_or(Decline::NoSuchField)?;
         let items = Vec::with_capacity(heap, N)?;
         Ok(FieldList { field, items })
     }

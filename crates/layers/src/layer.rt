@@ -1,8 +1,7 @@
 // A layer over any judge, which it holds by value: again a judge, with the table from below and its own note before the notes below.
 // It is written and proved once, for everything that a layer may keep.
-ghost use Rattle.std.specs.Prelude.{ℕ};
 ghost use Rattle.layers.specs.Layers.{layer_meaning};
-ghost use Rattle.judges.specs.Meanings.{Meaning, VerdictOn, JudgedUnder, over};
+ghost use Rattle.judges.specs.Meanings.{Meaning, VerdictOn, over};
 ghost use Rattle.std.proofs.Common.{rules};
 
 use crate::keeper::Keeper;
@@ -31,27 +30,9 @@ fn lowered<N: Keeper, Q: RequestKind, D: DecisionKind>(
         return verdict;
     };
     let number = kept.lower(value, verdict.decision.number());
-    match D::make(u32::from(number)) {
-        Ok(decision) => Verdict {
-            decision,
-            place: verdict.place,
-            matching: verdict.matching,
-        },
-        Err(_) => unreachable(),
-    }
-}
-
-// The same for a verdict under an edit, or the decline as it came from below.
-fn lowered_under<N: Keeper, Q: RequestKind, D: DecisionKind>(
-    kept: &N,
-    request: &Q,
-    answer: Result<Verdict<D>, Decline>,
-) -> Result<Verdict<D>, Decline>
-    ensures { (m : Meaning) (e : Edit ℕ) → JudgedUnder m (Q.RequestKind.values request.now) e D.DecisionKind.number answer → JudgedUnder (over (N.Keeper.note kept.now) m) (Q.RequestKind.values request.now) e D.DecisionKind.number result }
-{
-    match answer {
-        Ok(verdict) => Ok(lowered(kept, request, verdict)),
-        Err(decline) => Err(decline),
+    Verdict {
+        decision: D::make(u32::from(number)).unwrap(),
+        ..verdict
     }
 }
 
@@ -73,7 +54,8 @@ impl<N: Keeper, J: Judge> Judge for Layer<N, J> {
         request: &J::Request,
         edit: &Edit<J::Decision>,
     ) -> Result<Verdict<J::Decision>, Decline> {
-        lowered_under(&self.kept, request, self.below.judge_under(request, edit))
+        let verdict = self.below.judge_under(request, edit)?;
+        Ok(lowered(&self.kept, request, verdict))
     }
 
     fn edit(&mut self, edit: &Edit<J::Decision>) -> Result<(), Decline> {
@@ -90,6 +72,7 @@ impl<N: Keeper, J: Judge> Judge for Layer<N, J> {
 
     fn withdraw(&mut self, field: usize, value: u32) -> Result<(), Decline> {
         check_value::<J::Request>(field, value)?;
+        // A `match`, since of a closure that changes the judge below nothing would be known after the call.
         match self.kept.withdraw(field, value) {
             Some(done) => done,
             None => self.below.withdraw(field, value),
@@ -98,6 +81,7 @@ impl<N: Keeper, J: Judge> Judge for Layer<N, J> {
 
     fn give_back(&mut self, field: usize, value: u32) -> Result<(), Decline> {
         check_value::<J::Request>(field, value)?;
+        // A `match` for the same reason.
         match self.kept.give_back(field, value) {
             Some(done) => done,
             None => self.below.give_back(field, value),

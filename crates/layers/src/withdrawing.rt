@@ -1,16 +1,25 @@
 // Keeping withdrawn values: a request that bears one of them is refused.
 ghost use Rattle.std.specs.Prelude.{◌≡◌, ◌==◌, position};
 ghost use Rattle.layers.specs.Kept.{values_note};
+ghost use Rattle.judges.specs.Notes.{holds_value};
 
 use crate::keeper::Keeper;
 use crate::kept_values::KeptValues;
 use rules::decline::Decline;
 
-// The index of the first value that equals this one, if there is one.
-fn index_of(values: &[u32], value: u32) -> Option<usize>
-    ensures { result ≡ position (λ x. x == value) values.now }
-{
-    values.iter().position(|kept| *kept == value)
+impl KeptValues {
+    #[tactic(auto, using(crate::proofs::KeptLists::holds_any))]
+    fn holds(&self, value: u32) -> bool
+        ensures { result ≡ holds_value self.now.list.items.items value }
+    {
+        self.list.items.contains(&value)
+    }
+
+    fn index_of(&self, value: u32) -> Option<usize>
+        ensures { result ≡ position (λ x. x == value) self.now.list.items.items }
+    {
+        self.list.items.iter().position(|kept| *kept == value)
+    }
 }
 
 impl Keeper for KeptValues {
@@ -20,21 +29,19 @@ impl Keeper for KeptValues {
         self.list.field
     }
 
-    #[tactic(auto, using(crate::proofs::KeptLists::holds_any))]
     fn lower(&self, value: u32, number: u8) -> u8 {
-        if self.list.items.contains(&value) {
+        if self.holds(value) {
             0
         } else {
             number
         }
     }
 
-    #[tactic(auto, using(crate::proofs::KeptLists::holds_any))]
     fn withdraw(&mut self, field: usize, value: u32) -> Option<Result<(), Decline>> {
         if field != self.list.field {
             return None;
         }
-        if self.list.items.contains(&value) {
+        if self.holds(value) {
             return Some(Err(Decline::AlreadyWithdrawn));
         }
         if self.list.is_full() {
@@ -48,10 +55,10 @@ impl Keeper for KeptValues {
         if field != self.list.field {
             return None;
         }
-        let Some(index) = index_of(&self.list.items, value) else {
+        let Some(index) = self.index_of(value) else {
             return Some(Err(Decline::NotWithdrawn));
         };
-        let _ = self.list.items.remove(index);
+        self.list.items.remove(index);
         Some(Ok(()))
     }
 }

@@ -1,12 +1,15 @@
--- A request that bears the value from now on bears the last of the kept ones.
-use Rattle.std.proofs.Common.{◌≡◌, Some, sym, ap, ◌∙◌, arith}
-use Rattle.std.proofs.lemmas.Grind.{common_steps}
-use Rattle.rules.specs.Kinds.{of_field}
-use Rattle.layers.proofs.KeptLists.{holds_any}
+-- A value that is not kept yet leaves no value twice, and bars what bears it.
+use Rattle.std.proofs.Common.{vec_items, sym, ◌∙◌, eq-eqb, arith}
+use Rattle.layers.proofs.KeptLists.{apart_push, withdraw_bars}
 use Rattle.layers.proofs.withdrawing.KeptValuesKeeper.withdraw.Goals as goal
 
+pub invariant_of-self : goal.invariant_of-self
+invariant_of-self c =
+    let kept = c.args.self.now in
+    let apart = apart_push (vec_items kept.list.items) c.args.value kept.apart (sym c.holds.ensures ∙ c.if-holds.false) in
+    ((grind (arith, c.push_reserved.ensures), (grind (arith, c.push_reserved.ensures), tt)), (rw c.push_reserved.ensures.items apart, tt))
+
 pub returns-clause-bars : goal.returns-clause-bars
-returns-clause-bars c taken below values bears =
+returns-clause-bars c =
     let kept = c.args.self.now.list in
-    let borne : of_field values kept.field ≡ Some c.args.value = ap (of_field values) (sym c.if-field-self.false) ∙ bears in
-    rw (borne, c.push_reserved.ensures.items) (grind (arith, common_steps, holds_any))
+    withdraw_bars kept.field c.args.field c.args.value (vec_items kept.items) (vec_items c.push_reserved.new.self) (eq-eqb kept.field c.args.field (sym c.if-field-self.false)) c.push_reserved.ensures.items _
