@@ -47,7 +47,7 @@ without_gone values value index apart at = holds_any (remove values index) value
         ⊎_elim
         (λ before. ap (λ x. eqb x value) (get_or-remove_below values index d k before first.0) ∙ first.2 k before)
         (λ behind. ap (λ x. eqb x value) (get_or-remove_above values index d k behind first.0)
-            ∙ ne_eqb (get_or values (k + 1) d) value (λ same. apart index (k + 1) d (omega arith) (omega arith) (eqb-true (get_or values index d) value first.1 ∙ sym same)))
+        ∙ ne_eqb (get_or values (k + 1) d) value (λ same. apart index (k + 1) d (omega arith) (omega arith) (eqb-true (get_or values index d) value first.1 ∙ sym same)))
         (cases_lt k index)
 
 -- what withdrawing a value makes of a note on its field

@@ -1,6 +1,6 @@
 // What a layer keeps of one field, up to N of it, in the order in which it came.
 // Memory for all of it is claimed when the list is set up, so that no later call can want any.
-ghost use Rattle.std.specs.Prelude.{◌≡◌, ◌≤◌, true, [], is_some, nat_le, vec_len, vec_capacity, vec_items, IfOk, IfErr};
+ghost use Rattle.std.specs.Prelude.{◌≡◌, ◌<◌, ◌≤◌, true, [], ◌∷◌, ◌++◌, is_some, nat_le, vec_len, vec_capacity, vec_items, IfOk, IfErr};
 ghost use Rattle.rules.specs.Kinds.{of_field};
 ghost use Rattle.layers.specs.Layers.{set_up_decline};
 
@@ -33,5 +33,13 @@ impl<T, const N: usize> FieldList<T, N> {
         ensures { result ≡ nat_le N (vec_len self.now.items) }
     {
         self.items.len() >= N
+    }
+    // Behind those that came before.
+    pub(crate) fn push(&mut self, item: T)
+        requires { vec_len self.old.items < N }
+        ensures field { self.new.field ≡ self.old.field }
+        ensures items { self.new.items.items ≡ self.old.items.items ++ (item ∷ []) }
+    {
+        self.items.push_reserved(item);
     }
 }

@@ -60,7 +60,7 @@ impl<Q: RequestKind, D: DecisionKind> Windows<Q, D> {
             interval,
             cap: cap.number(),
         };
-        self.kept.items.push_reserved(window);
+        self.kept.push(window);
         Ok(())
     }
 

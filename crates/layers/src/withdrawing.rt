@@ -30,11 +30,7 @@ impl Keeper for KeptValues {
     }
 
     fn lower(&self, value: u32, number: u8) -> u8 {
-        if self.holds(value) {
-            0
-        } else {
-            number
-        }
+        if self.holds(value) { 0 } else { number }
     }
 
     fn withdraw(&mut self, field: usize, value: u32) -> Option<Result<(), Decline>> {
@@ -47,7 +43,7 @@ impl Keeper for KeptValues {
         if self.list.is_full() {
             return Some(Err(Decline::NoteFull));
         }
-        self.list.items.push_reserved(value);
+        self.list.push(value);
         Some(Ok(()))
     }
 
