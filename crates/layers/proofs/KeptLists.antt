@@ -1,5 +1,5 @@
 -- What layers keep, read by the words of std for lists. Assumes nothing.
-use Rattle.std.proofs.Common.{◌≡◌, ℕ, min, Bool, true, false, cond, ◌||◌, eqb, List, [], ◌∷◌, map, filter, fold, Some, Option, ◌++◌, suc, not, is_some, position, remove, All, AllPairs, ◌≢◌, ◌+◌, ⊎_elim, get_or, ne_eqb, eq-eqb, refl, sym, ap, ◌∙◌, arith}
+use Rattle.std.proofs.Common.{◌≡◌, ℕ, min, true, false, ◌||◌, eqb, List, [], ◌∷◌, map, filter, fold, Some, Option, ◌++◌, suc, is_some, position, remove, All, AllPairs, ◌≢◌, ◌+◌, ⊎_elim, get_or, ne_eqb, eq-eqb, refl, sym, ap, ◌∙◌, arith}
 use Rattle.std.specs.List.{list_any, position_or_len}
 use Rattle.std.proofs.lemmas.List.Edits.{length-remove, get_or-remove_below, get_or-remove_above}
 use Rattle.std.proofs.lemmas.Bool.{cases_lt, eqb-true}
@@ -29,12 +29,9 @@ apart_push values value apart absent = all_pairs_push (λ x y. x ≢ y) values v
 -- taking a value out is removing it at its first index
 pub without_index : (values : List ℕ) (value : ℕ) → without values value ≡ remove values (position_or_len (λ x. eqb x value) values)
 without_index [] value = refl
-without_index (x ∷ xs) value = cases (eqb x value) (1 + position_or_len (λ y. eqb y value) xs) (omega arith) (without_index xs value)
-  where
-    cases : (b : Bool) (next : ℕ) → next ≡ suc (position_or_len (λ y. eqb y value) xs) → without xs value ≡ remove xs (position_or_len (λ y. eqb y value) xs)
-        → cond b xs (x ∷ without xs value) ≡ remove (x ∷ xs) (cond (not b) next 0)
-    cases true next is later = refl
-    cases false next is later = rw is (ap (λ l. x ∷ l) later)
+without_index (x ∷ xs) value =
+    let next : 1 + position_or_len (λ y. eqb y value) xs ≡ suc (position_or_len (λ y. eqb y value) xs) = omega arith in
+    grind (arith, next, without_index xs value)
 
 -- of values none of which stands twice, one taken out is kept no more
 without_gone : (values : List ℕ) (value index : ℕ) → AllPairs (λ x y. x ≢ y) values → position (λ x. eqb x value) values ≡ Some index → holds_value (remove values index) value ≡ false

@@ -1,5 +1,5 @@
-// What a layer keeps of one field, up to N of it, in the order in which it came.
-// Memory for all of it is claimed when the list is set up, so that no later call can want any.
+// A list that a layer keeps on a field: up to N items, in the order in which they came.
+// Memory for all of them is claimed when the layer is set up, so that no later call can want any.
 ghost use Rattle.std.specs.Prelude.{◌≡◌, ◌<◌, ◌≤◌, true, [], ◌∷◌, ◌++◌, is_some, nat_le, vec_len, vec_capacity, vec_items, IfOk, IfErr};
 ghost use Rattle.rules.specs.Kinds.{of_field};
 ghost use Rattle.layers.specs.Layers.{set_up_decline};
@@ -17,8 +17,7 @@ pub struct FieldList<T, const N: usize> {
 }
 
 impl<T, const N: usize> FieldList<T, N> {
-    // Set up on a field of the kind, with nothing in it. Declined 14 where there is no such field, then 99 where there is not
-    // enough memory.
+    // Set up on a field, with no item. Declined 14 where there is no such field, then 99 where there is not enough memory.
     pub(crate) fn on<Q: RequestKind>(heap: Global, field: usize) -> Result<FieldList<T, N>, Decline>
         ensures made { IfOk result (λ list. (is_some (of_field Q.RequestKind.ranges field) ≡ true) × (list.field ≡ field) × (vec_items list.items ≡ [])) }
         ensures declines { IfErr result (λ decline. decline ≡ set_up_decline (of_field Q.RequestKind.ranges field)) }
@@ -28,13 +27,14 @@ impl<T, const N: usize> FieldList<T, N> {
         Ok(FieldList { field, items })
     }
 
-    // Whether there are N already.
+    // Whether there are N items already.
     pub(crate) fn is_full(&self) -> bool
         ensures { result ≡ nat_le N (vec_len self.now.items) }
     {
         self.items.len() >= N
     }
-    // Behind those that came before.
+
+    // Puts one more behind the others.
     pub(crate) fn push(&mut self, item: T)
         requires { vec_len self.old.items < N }
         ensures field { self.new.field ≡ self.old.field }

@@ -65,6 +65,7 @@ impl<Q: RequestKind, D: DecisionKind> Windows<Q, D> {
     }
 
     // Piles the layer on a judge of its kinds, which it takes. It is never declined.
+    // A function beside that of withdrawals, since caps are decisions of one kind, and the judge's must be of that kind too.
     pub fn over<J: Judge<Request = Q, Decision = D>>(self, below: J) -> Layer<KeptWindows, J>
         ensures { layer_meaning windows_note J.Judge.meaning result ≡ over (windows_note self.kept) (J.Judge.meaning below) }
     {

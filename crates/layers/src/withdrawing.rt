@@ -8,6 +8,7 @@ use crate::kept_values::KeptValues;
 use rules::decline::Decline;
 
 impl KeptValues {
+    // Whether the value is withdrawn.
     #[tactic(auto, using(crate::proofs::KeptLists::holds_any))]
     fn holds(&self, value: u32) -> bool
         ensures { result ≡ holds_value self.now.list.items.items value }
@@ -15,6 +16,7 @@ impl KeptValues {
         self.list.items.contains(&value)
     }
 
+    // Where it stands among those that are, if it does.
     fn index_of(&self, value: u32) -> Option<usize>
         ensures { result ≡ position (λ x. x == value) self.now.list.items.items }
     {

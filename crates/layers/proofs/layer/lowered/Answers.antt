@@ -1,5 +1,5 @@
 -- A verdict from below, its decision lowered by the note, is the verdict of the layer; a lowered decision can be made.
-use Rattle.std.proofs.Common.{◌≡◌, Some, refl, ap, ◌∙◌}
+use Rattle.std.proofs.Common.{◌≡◌, Some, refl, ap, ◌∙◌, arith}
 use Rattle.std.proofs.lemmas.Result.{IfOk-at_ok}
 use Rattle.rules.specs.Kinds.{of_field}
 use Rattle.judges.specs.Notes.{noted_value}
@@ -19,4 +19,4 @@ returns g c m below =
     let borne = c.in-Some.ensures ∙ ap (of_field values) c.field.ensures in
     let has = IfOk-at_ok (λ d. g.D.DecisionKind.number d ≡ c.from.result) c.unwrap.ensures c.make.ensures.has in
     judged_over m note values below
-    (has ∙ c.from.ensures ∙ c.lower-number.ensures ∙ (λ k. noted_value note (borne k) (c.number.ensures k))) refl refl
+    (grind (arith, has, borne)) refl refl
