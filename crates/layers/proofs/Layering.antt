@@ -4,7 +4,7 @@ use Rattle.std.proofs.lemmas.Bool.{lt-ltb}
 use Rattle.rules.specs.declared.decline.Decline.{Decline}
 use Rattle.rules.specs.declared.decline.Decline.TheVariants.{NotOfKind}
 use Rattle.rules.specs.Declines.{declined, unless}
-use Rattle.rules.specs.Kinds.{DecisionMade}
+use Rattle.rules.specs.Kinds.{decision_decline}
 use Rattle.judges.specs.Matches.{FirstMatch}
 use Rattle.judges.specs.Meanings.{Meaning, Judged, over}
 use Rattle.judges.specs.Notes.{Note, noted, noted_value}
@@ -17,13 +17,12 @@ judged_over m note values below lowered same_place same_set =
     judged (over note m) values (subst (FirstMatch m.rules values) below.place_is below.first)
     (lowered ∙ ap (noted note values) below.decision_is) (same_place ∙ below.place_is) (same_set ∙ below.set_is)
 
-made_ok : {D : Type 0} (made : Result D Decline) → declined made ≡ None → IsOk made
-made_ok (Ok d) none = refl
-made_ok (Err e) none = let z : ◌≡◌ {A = ℕ} 0 1 = cc in absurd (omega arith)
-
 -- a lowered decision can be made
-pub lowered_made : {D : Type 0} (number_of : D → ℕ) (note : Note) (value : Option ℕ) (count decision number : ℕ) (made : Result D Decline)
-    → decision < count → number ≡ noted_value note value decision → DecisionMade count number_of number made → IsOk made
-lowered_made number_of note value count decision number made known is answers =
+pub lowered_made : (note : Note) (value : Option ℕ) (count decision number : ℕ) → decision < count → number ≡ noted_value note value decision → decision_decline count number ≡ None
+lowered_made note value count decision number known is =
     let less = noted_less note value decision in
-    made_ok made (answers.answer ∙ ap (λ b. unless (not b) NotOfKind None) (lt-ltb number count (omega arith)))
+    ap (λ b. unless (not b) NotOfKind None) (lt-ltb number count (omega arith))
+
+pub ok_from_declined : {D : Type 0} (made : Result D Decline) → declined made ≡ None → IsOk made
+ok_from_declined (Ok d) none = refl
+ok_from_declined (Err e) none = let z : ◌≡◌ {A = ℕ} 0 1 = cc in absurd (omega arith)

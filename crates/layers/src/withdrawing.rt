@@ -49,6 +49,7 @@ impl Keeper for KeptValues {
         Some(Ok(()))
     }
 
+    #[tactic(auto, using(crate::proofs::KeptLists::holds_position))]
     fn give_back(&mut self, field: usize, value: u32) -> Option<Result<(), Decline>> {
         if field != self.list.field {
             return None;

@@ -2,15 +2,14 @@
 use Rattle.std.proofs.Common.{◌≡◌, Some, refl, ap, ◌∙◌, arith}
 use Rattle.std.proofs.lemmas.Result.{IfOk-at_ok}
 use Rattle.rules.specs.Kinds.{of_field}
-use Rattle.judges.specs.Notes.{noted_value}
-use Rattle.layers.proofs.Layering.{lowered_made, judged_over}
+use Rattle.layers.proofs.Layering.{lowered_made, ok_from_declined, judged_over}
 use Rattle.layers.proofs.layer.lowered.Goals as goal
 
 pub unwrap-requires : goal.unwrap-requires
 unwrap-requires g c =
-    let note = g.N.Keeper.note c.args.kept.now in
-    lowered_made g.D.DecisionKind.number note (Some c.in-Some.value) g.D.DecisionKind.count (g.D.DecisionKind.number c.args.verdict.decision) c.from.result c.make.result
-    (g.met.D.DecisionKind.numbered c.args.verdict.decision) (c.from.ensures ∙ c.lower-number.ensures ∙ ap (noted_value note (Some c.in-Some.value)) c.number.ensures) c.make.ensures
+    let number = g.D.DecisionKind.number c.args.verdict.decision in
+    let can = lowered_made (g.N.Keeper.note c.args.kept.now) (Some c.in-Some.value) g.D.DecisionKind.count number c.from.result (g.met.D.DecisionKind.numbered c.args.verdict.decision) (grind arith) in
+    ok_from_declined c.make.result (c.make.ensures.answer ∙ can)
 
 pub returns : goal.returns
 returns g c m below =
@@ -18,5 +17,4 @@ returns g c m below =
     let values = g.Q.RequestKind.values c.args.request.now in
     let borne = c.in-Some.ensures ∙ ap (of_field values) c.field.ensures in
     let has = IfOk-at_ok (λ d. g.D.DecisionKind.number d ≡ c.from.result) c.unwrap.ensures c.make.ensures.has in
-    judged_over m note values below
-    (grind (arith, has, borne)) refl refl
+    judged_over m note values below (grind (arith, has, borne)) refl refl

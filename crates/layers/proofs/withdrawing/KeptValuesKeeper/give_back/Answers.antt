@@ -1,14 +1,8 @@
--- A kept value is removed at its index, and is then kept no more; one that has none is declined 18.
-use Rattle.std.proofs.Common.{◌≡◌, is_some, remove, vec_items, arith, refl, sym, ap, ◌∙◌, eq-eqb}
+-- A kept value is removed at its index, and is then kept no more.
+use Rattle.std.proofs.Common.{◌≡◌, remove, vec_items, arith, refl, sym, ◌∙◌, eq-eqb}
 use Rattle.judges.specs.Notes.{without}
 use Rattle.layers.proofs.KeptLists.{holds_position, without_index, give_back_frees}
 use Rattle.layers.proofs.withdrawing.KeptValuesKeeper.give_back.Goals as goal
-
-pub returns-in_default-clause-acted : goal.returns-in_default-clause-acted
-returns-in_default-clause-acted c =
-    let kept = c.args.self.now.list in
-    let absent = holds_position (vec_items kept.items) c.args.value ∙ ap is_some (sym c.index_of.ensures ∙ c.in_default.is) in
-    grind (arith, absent)
 
 pub returns-clause-acted : goal.returns-clause-acted
 returns-clause-acted c =
