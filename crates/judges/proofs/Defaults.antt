@@ -1,6 +1,5 @@
 -- The default under an edit: it still matches every request, so that some rule always does. Assumes nothing.
 use Rattle.std.proofs.Common.{◌≡◌, ℕ, ◌-◌, ◌<◌, ◌≤◌, true, eqb, List, length, Some, None, Option, refl, ap, ◌∙◌, arith}
-use Rattle.std.proofs.ByRecursion.{All-get_or}
 use Rattle.std.proofs.lemmas.Bool.{cond_both}
 use Rattle.tables.specs.declared.edit.Edit.{Edit}
 use Rattle.tables.specs.declared.edit.Edit.TheVariants.{Change, Swap, Delete}
@@ -10,6 +9,7 @@ use Rattle.rules.specs.Intervals.{within}
 use Rattle.rules.specs.Rules.{matches, rule_at, Lawful, LawfulRule}
 use Rattle.tables.proofs.Declining.{change_taken, swap_taken, delete_taken}
 use Rattle.std.proofs.lemmas.Grind.{elements}
+use Rattle.std.proofs.lemmas.List.Elements.{All-from_recursion}
 use Rattle.judges.specs.Views.{under, Taken, KnownIn, source_of, count_under, decision_under}
 use Rattle.judges.proofs.Firsts.{blank}
 use Rattle.judges.proofs.Seeing.{stands, length_under}
@@ -46,7 +46,7 @@ module _ (ranges : List Interval) (count : ℕ) (rules : List Rule) (edit : Opti
       let both = stands edit rules p taken low high in
       let s = source_of edit p in
       let inside = both.1 in
-      let own = (All-get_or (LawfulRule ranges count) rules (s - 1) blank (omega arith) lawful.each).1 in
+      let own = (All-from_recursion (LawfulRule ranges count) rules lawful.each (s - 1) blank (omega arith)).1 in
       let is = ap (λ r. r.decision) both.0 in
       let below = below_under edit count p (rule_at rules s).decision known own in
       omega arith
