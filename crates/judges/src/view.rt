@@ -104,7 +104,8 @@ impl<'a> View<'a> {
         (1..self.count() + 1).find(|place| self.matches_at(*place, values))
     }
 
-    // The matching set: bit p - 1 for the rule at place p.
+    // The matching set: bit p - 1 for the rule at place p. Places are counted, since the rules are seen through an edit and
+    // stand in no slice as they are seen.
     pub(crate) fn matching_set(&self, values: &[u32]) -> u64
         ensures { result ≡ matching_set self.now values.now }
     {
@@ -123,6 +124,7 @@ impl<'a> View<'a> {
         ensures { result ≡ (rule_at self.now place).decision }
     {
         let kept = self.rules[source(self.edit, place) - 1].decision;
+        // There are 1 to 256 decisions, so the cast keeps the last one's number.
         let greatest = (self.limits.decisions() - 1) as u8;
         decision_after(self.edit, place, kept.min(greatest))
     }

@@ -43,6 +43,7 @@ impl Command {
         {
             return Err(Decline::NotOfKind);
         }
+        // Each cast keeps its value, by the test above: `try_from` would only add a refusal that never comes.
         Ok(Command {
             code: code as u16,
             level: level as u8,

@@ -19,6 +19,7 @@ impl Minutes {
         if given < 1 || given > 240 {
             return Err(Decline::NotOfKind);
         }
+        // The cast keeps the value, by the test above.
         Ok(Minutes { value: given as u8 })
     }
 

@@ -35,6 +35,7 @@ impl Packet {
         if sport > 65535 || dport > 65535 || protocol > 255 {
             return Err(Decline::NotOfKind);
         }
+        // Each cast keeps its value, by the test above: `try_from` would only add a refusal that never comes.
         Ok(Packet {
             source,
             destination,

@@ -72,7 +72,7 @@ impl<N: Keeper, J: Judge> Judge for Layer<N, J> {
 
     fn withdraw(&mut self, field: usize, value: u32) -> Result<(), Decline> {
         check_value::<J::Request>(field, value)?;
-        // A `match`, since of a closure that changes the judge below nothing would be known after the call.
+        // A `match` and no `unwrap_or_else`: after the call nothing would be known of a judge that a closure changed.
         match self.kept.withdraw(field, value) {
             Some(done) => done,
             None => self.below.withdraw(field, value),

@@ -60,6 +60,7 @@ impl Decline {
         }
     }
 
+    // No derive of messages: the number, which stands before the words, is listed once, in `number`.
     fn meaning(&self) -> &'static str {
         match self {
             Decline::TextTooLong => "the text is longer than 65536 bytes",

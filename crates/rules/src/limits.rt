@@ -7,6 +7,7 @@ use crate::interval::Interval;
 use crate::kind::{DecisionKind, RequestKind};
 use crate::rule::Clauses;
 
+// An array and how many of it count, and no Vec: limits are copied, and a judge gathers them without claiming memory.
 #[derive(Clone, Copy)]
 pub struct Limits {
     ranges: [Interval; 6],

@@ -1,5 +1,6 @@
 // A rule: an interval for each field, and the number of its decision.
-// A rule has room for six fields; those past the kind's own are not asked.
+// A rule has room for six fields; those past the kind's own are not asked. It is plain numbers, in fixed memory, for every
+// kind alike: the number of a decision and not the decision, an array of six and no Vec.
 ghost use Rattle.std.specs.Prelude.{◌≡◌, ◌≤◌, length};
 ghost use Rattle.rules.specs.Limits.{ranges_in};
 ghost use Rattle.rules.specs.Intervals.{within};

@@ -10,7 +10,7 @@ pub struct Test<Q, D> {
 }
 
 impl<Q, D: DecisionKind> Test<Q, D> {
-    // Whether this decision passes the test.
+    // Whether this decision passes the test: by its number, which determines it, since a kind of decision need not have an `==`.
     pub fn passes(&self, decision: &D) -> bool
         ensures { result ≡ (D.DecisionKind.number self.now.expected == D.DecisionKind.number decision.now) }
     {

@@ -4,6 +4,8 @@ ghost use Rattle.std.specs.Prelude.{◌≡◌, ◌≤◌, length, take};
 use crate::kind::RequestKind;
 use std::array;
 
+// An array and how many of it count, and no Vec: a judge gathers the values anew for each request, without claiming memory.
+// A generic struct for these and for the ranges of `Limits` could not derive Clone beside its ghost field.
 #[derive(Clone, Copy)]
 pub struct Values {
     list: [u32; 6],

@@ -15,7 +15,7 @@ pub enum Edit<D> {
     Delete { place: usize },
 }
 
-// The same edit with the decision's number in place of the decision.
+// The same edit with the decision's number in place of the decision: tables keep plain numbers.
 impl<D: DecisionKind> From<&Edit<D>> for Edit<u8> {
     ghost from_gives = { λ edit plain. plain ≡ plain_edit D.DecisionKind.number edit.now };
 

@@ -49,6 +49,7 @@ impl RuleList {
         ensures { result ≡ (if placed (vec_len self.now.rules) place then Some (min (rule_at self.now.rules.items place).decision (decisions - 1)) else None) }
     {
         let rule = self.rules.get(place.checked_sub(1)?)?;
+        // The lesser of the two is below 256, so the cast keeps it.
         Some((rule.decision as usize).min(decisions.saturating_sub(1)) as u8)
     }
 

@@ -14,6 +14,8 @@ use rules::limits::Limits;
 use rules::rule::Rule;
 use std::marker::PhantomData;
 
+// Contracts speak of its rules by `table_rules` and not by a model of the type: with a model they would see the bare list,
+// and the law of judges that a table is lawful could say nothing of it.
 #[derive(Drop)]
 pub struct Table<Q, D> {
     // The kinds' limits as plain numbers; nothing reads this copy yet.
