@@ -11,7 +11,7 @@ use Rattle.tables.proofs.Declining.{change_taken, swap_taken, delete_taken}
 use Rattle.std.proofs.lemmas.Grind.{elements}
 use Rattle.std.proofs.lemmas.List.Elements.{All-from_recursion}
 use Rattle.judges.specs.Views.{under, Taken, KnownIn, source_of, count_under, decision_under}
-use Rattle.judges.proofs.Firsts.{blank}
+use Rattle.tables.proofs.Cuts.{blank}
 use Rattle.judges.proofs.Seeing.{stands, length_under}
 
 same_end : (edit : Option (Edit ℕ)) (rules : List Rule) → Taken edit rules → (rule_at (under edit rules) (length (under edit rules))).clauses ≡ (rule_at rules (length rules)).clauses

@@ -11,11 +11,8 @@ use Rattle.std.proofs.lemmas.Nat.{one_shl, or_comm, or_shifted}
 use Rattle.std.proofs.Math.Nat.{pow-succ'}
 use Rattle.rules.specs.declared.rule.Rule.{Rule}
 use Rattle.rules.specs.Rules.{matches, rule_at}
+use Rattle.tables.proofs.Cuts.{blank}
 use Rattle.judges.specs.Matches.{FirstMatch, first_match, matching_set}
-
--- what `rule_at` reads where there is no rule
-abbrev pub blank : Rule
-blank = record { clauses = []; decision = 0 }
 
 -- the computed place, in std's words
 first_at : (rules : List Rule) (values : List ℕ) → first_match rules values ≡ suc (position_or_len (λ rule. matches rule values) rules)

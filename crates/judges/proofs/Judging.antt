@@ -7,7 +7,8 @@ use Rattle.rules.specs.Rules.{matches, rule_at}
 use Rattle.judges.specs.Matches.{FirstMatch, first_match, Matching, matching_set, bit}
 use Rattle.judges.specs.Meanings.{Meaning, Judged, decided}
 use Rattle.judges.specs.Notes.{caps_on, strictest}
-use Rattle.judges.proofs.Firsts.{blank, no_more_bits}
+use Rattle.tables.proofs.Cuts.{blank}
+use Rattle.judges.proofs.Firsts.{no_more_bits}
 use Rattle.judges.proofs.Lowering.{lowered_less, lowered_refused, lowered_strictest}
 
 bit_here : (b : Bool) (rest : ℕ) → bit (cond b 1 0 + 2 * rest) 0 ≡ b

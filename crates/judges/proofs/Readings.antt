@@ -1,18 +1,15 @@
 -- A verdict on a table by limits that are the kinds' own. Assumes nothing.
-use Rattle.std.proofs.Common.{◌≡◌, ℕ, ◌<◌, ◌≤◌, true, false, not, List, [], length, None, Some, Option, IsSome, MatchOption, Result, Ok, Err, IsOk, vec_items, refl, sym, ap, ◌∙◌, subst, arith}
-use Rattle.std.proofs.lemmas.Bool.{both_ways, lt-ltb}
-use Rattle.rules.specs.declared.decline.Decline.TheVariants.{NotOfKind}
+use Rattle.std.proofs.Common.{◌≡◌, ℕ, ◌<◌, ◌≤◌, true, false, List, [], length, None, Some, Option, IsSome, MatchOption, vec_items, refl, sym, ap, ◌∙◌, subst, arith}
+use Rattle.std.proofs.lemmas.Bool.{both_ways}
 use Rattle.tables.specs.declared.edit.Edit.{Edit}
 use Rattle.tables.specs.declared.edit.Edit.TheVariants.{Change, Swap, Delete}
 use Rattle.rules.specs.declared.interval.Interval.{Interval}
 use Rattle.rules.specs.declared.limits.Limits.{Limits}
 use Rattle.rules.specs.declared.rule.Rule.{Rule}
-use Rattle.rules.specs.Declines.{declined, unless}
-use Rattle.rules.specs.declared.decline.Decline.{Decline}
 use Rattle.tables.specs.declared.rule_list.RuleList.{RuleList}
 use Rattle.tables.proofs.Cuts.{list_lawful}
 use Rattle.tables.specs.Edits.{Known, plain_edit, edit_decline}
-use Rattle.rules.specs.Kinds.{LawfulRanges, decision_decline}
+use Rattle.rules.specs.Kinds.{LawfulRanges}
 use Rattle.rules.specs.Intervals.{within}
 use Rattle.rules.specs.Limits.{ranges_in}
 use Rattle.rules.specs.Rules.{cut, matches, rule_at}
@@ -40,11 +37,11 @@ module _ (ranges : List Interval) (count : ℕ) (rules : List Rule) (edit : Opti
       absurd (both_ways true (sym last.1 ∙ none (length shown) last.0 (omega arith)) refl)
   place_found values ranged (Some place) first = refl
 
-  -- the decision of the rule there can be made
-  pub decision_made : {values : List ℕ} {place number : ℕ} → FirstMatch shown values place → number ≡ (rule_at shown place).decision → decision_decline count number ≡ None
-  decision_made {values} {place} {number} first told =
+  -- the decision of the rule there is one of those that there are
+  pub decision_known : {values : List ℕ} {place number : ℕ} → FirstMatch shown values place → number ≡ (rule_at shown place).decision → number < count
+  decision_known {values} {place} {number} first told =
       let below = decision_below ranges count (cut ranges count rules) edit read.lawful read.taken read.known place first.from_one first.to_last in
-      ap (λ b. unless (not b) NotOfKind None) (lt-ltb number count (omega arith))
+      omega arith
 
   pub verdict_judged : {values : List ℕ} {decision place set : ℕ} → FirstMatch shown values place → decision ≡ (rule_at shown place).decision → set ≡ matching_set shown values
       → Judged (record { rules = shown; notes = [] }) values decision place set
@@ -68,8 +65,3 @@ module _ (ranges : List Interval) (count : ℕ) (list : RuleList) (lawful : Lawf
   readable_under number below edit same taken =
       let given : Readable ranges count (vec_items list.rules) (Some (plain_edit number edit)) = record { lawful = list_lawful list ranges count lawful counted; taken = taken; known = known_plain number count below edit } in
       subst (λ e. Readable ranges count kept (Some e)) (sym same) (subst (λ rules. Readable ranges count rules (Some (plain_edit number edit))) (sym own) given)
-
--- what is not declined is there
-pub ok_of : {A : Type 0} (r : Result A Decline) → declined r ≡ None → IsOk r
-ok_of (Ok a) h = refl
-ok_of (Err d) h = cc

@@ -17,7 +17,8 @@ use Rattle.rules.specs.Rules.{rule_at, forward_rule, above_default, default_rule
 use Rattle.tables.proofs.Declining.{taken_in_place}
 use Rattle.tables.proofs.Kept.{every_decides}
 
-abbrev blank : Rule
+-- what `rule_at` reads where there is no rule
+abbrev pub blank : Rule
 blank = record { clauses = []; decision = 0 }
 
 module _ (ranges : List Interval) (count : ℕ) where

@@ -2,7 +2,8 @@
 use Rattle.std.proofs.Common.{◌∙◌}
 use Rattle.std.proofs.lemmas.Option.{MatchOption-at_some}
 use Rattle.std.proofs.lemmas.Result.{IfOk-at_ok}
-use Rattle.judges.proofs.Readings.{seen_own, place_found, decision_made, verdict_judged, ok_of}
+use Rattle.rules.proofs.Making.{made_below}
+use Rattle.judges.proofs.Readings.{seen_own, place_found, decision_known, verdict_judged}
 use Rattle.judges.proofs.reading.verdict.Goals as goal
 
 pub unwrap-place-requires : goal.unwrap-place-requires
@@ -15,7 +16,7 @@ pub unwrap-requires : goal.unwrap-requires
 unwrap-requires g c =
     let shown = c.new-view.ensures ∙ seen_own c.args.rules.now c.args.edit c.of.result c.of.ensures.ranges c.of.ensures.decisions in
     let first = MatchOption-at_some _ _ c.unwrap-place.result c.unwrap-place.ensures c.first_match.ensures in
-    ok_of c.make.result (c.make.ensures.answer ∙ decision_made _ _ _ _ c.requires (rw shown at first) (c.from.ensures ∙ rw shown at c.decision_at.ensures))
+    made_below c.make.result c.make.ensures (decision_known _ _ _ _ c.requires (rw shown at first) (c.from.ensures ∙ rw shown at c.decision_at.ensures))
 
 pub returns : goal.returns
 returns g c =

@@ -2,14 +2,17 @@
 use Rattle.std.proofs.Common.{◌≡◌, Some, refl, ap, ◌∙◌, arith}
 use Rattle.std.proofs.lemmas.Result.{IfOk-at_ok}
 use Rattle.rules.specs.Kinds.{of_field}
-use Rattle.layers.proofs.Layering.{lowered_made, ok_from_declined, judged_over}
+use Rattle.rules.proofs.Making.{made_below}
+use Rattle.judges.proofs.Lowering.{noted_less}
+use Rattle.layers.proofs.Layering.{judged_over}
 use Rattle.layers.proofs.layer.lowered.Goals as goal
 
 pub unwrap-requires : goal.unwrap-requires
 unwrap-requires g c =
     let number = g.D.DecisionKind.number c.args.verdict.decision in
-    let can = lowered_made (g.N.Keeper.note c.args.kept.now) (Some c.in-Some.value) g.D.DecisionKind.count number c.from.result (g.met.D.DecisionKind.numbered c.args.verdict.decision) (grind arith) in
-    ok_from_declined c.make.result (c.make.ensures.answer ∙ can)
+    let less = noted_less (g.N.Keeper.note c.args.kept.now) (Some c.in-Some.value) number in
+    let known = g.met.D.DecisionKind.numbered c.args.verdict.decision in
+    made_below c.make.result c.make.ensures (grind (arith, less, known))
 
 pub returns : goal.returns
 returns g c m below =
