@@ -47,13 +47,18 @@ end_kept xs (Change place decision) at = change_end xs place decision at.0 at.1
 end_kept xs (Swap first second) at = swap_end xs first second at.0 at.1 at.2
 end_kept xs (Delete place) at = delete_end xs place at.0 at.1
 
--- the facts of a `RuleList` on its rules, once they are edited
+-- the facts of a `RuleList` on its rules, from those of the list of rules
+pub ghosts : (v : Vec Rule Global) (rules : List Rule) → vec_items v ≡ rules → every forward_rule rules ≡ true → every wide (rule_at rules (length rules)).clauses ≡ true
+    → (every forward_rule (vec_items v) ≡ true) × (every wide (rule_at (vec_items v) (vec_len v)).clauses ≡ true)
+ghosts v rules is run whole =
+    (ap (every forward_rule) is ∙ run, ap (λ n. every wide (rule_at (vec_items v) n).clauses) v.ok.0 ∙ ap (λ l. every wide (rule_at l (length l)).clauses) is ∙ whole)
+
+-- and once they are edited
 pub list_kept : (old : RuleList) (edit : Edit ℕ) (new : Vec Rule Global) → InPlace (vec_len old.rules) edit → vec_items new ≡ edited (vec_items old.rules) edit
     → (every forward_rule (vec_items new) ≡ true) × (every wide (rule_at (vec_items new) (vec_len new)).clauses ≡ true)
 list_kept old edit new at is =
     let xs = vec_items old.rules in
     let inside = subst (λ n. InPlace n edit) old.rules.ok.0 at in
-    let whole = subst (λ n. every wide (rule_at xs n).clauses ≡ true) old.rules.ok.0 old.whole in (
-      ap (every forward_rule) is ∙ (every_decides forward_rule (edited xs edit)).1 (all_kept xs edit inside ((every_decides forward_rule xs).0 old.run)),
-      ap (λ n. every wide (rule_at (vec_items new) n).clauses) new.ok.0 ∙ ap (λ l. every wide (rule_at l (length l)).clauses) is ∙ ap (every wide) (end_kept xs edit inside) ∙ whole,
-    )
+    let whole = subst (λ n. every wide (rule_at xs n).clauses ≡ true) old.rules.ok.0 old.whole in
+    ghosts new (edited xs edit) is ((every_decides forward_rule (edited xs edit)).1 (all_kept xs edit inside ((every_decides forward_rule xs).0 old.run)))
+    (ap (every wide) (end_kept xs edit inside) ∙ whole)
