@@ -13,7 +13,7 @@ use rules::interval::Interval;
 use rules::kind::RequestKind;
 use std::fmt;
 
-#[derive(Clone, Copy)]
+#[derive(Clone, Copy, PartialEq, Eq, Debug)]
 pub struct Command {
     code: u16,
     level: u8,

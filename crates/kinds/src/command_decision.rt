@@ -9,7 +9,7 @@ use rules::decline::Decline;
 use rules::kind::DecisionKind;
 use std::fmt;
 
-#[derive(Clone, Copy)]
+#[derive(Clone, Copy, PartialEq, Eq, Debug)]
 pub enum CommandDecision {
     Refuse,
     Hold,

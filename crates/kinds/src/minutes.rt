@@ -5,7 +5,7 @@ ghost use Rattle.rules.specs.Kinds.{MadeFrom};
 
 use rules::decline::Decline;
 
-#[derive(Clone, Copy)]
+#[derive(Clone, Copy, PartialEq, Eq, Debug)]
 pub struct Minutes {
     value: u8,
     ghost ranged: { inside (from_to 1 240) value ≡ true },

@@ -11,7 +11,7 @@ use rules::decline::Decline;
 use rules::interval::Interval;
 use rules::kind::RequestKind;
 
-#[derive(Clone, Copy)]
+#[derive(Clone, Copy, PartialEq, Eq, Debug)]
 pub struct Packet {
     source: u32,
     destination: u32,

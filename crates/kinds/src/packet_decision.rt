@@ -7,7 +7,7 @@ use rules::decline::Decline;
 use rules::kind::DecisionKind;
 use std::fmt;
 
-#[derive(Clone, Copy)]
+#[derive(Clone, Copy, PartialEq, Eq, Debug)]
 pub enum PacketDecision {
     Discard,
     Accept,

@@ -12,7 +12,7 @@ use crate::limits::Limits;
 // A clause for each field, in order; those past the kind's fields are not asked.
 pub type Clauses = [Interval; 6];
 
-#[derive(Clone, Copy, Debug)]
+#[derive(Clone, Copy, PartialEq, Eq, Debug)]
 pub struct Rule {
     pub clauses: Clauses,
     pub decision: u8,
