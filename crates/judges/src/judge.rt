@@ -42,7 +42,8 @@ pub trait Judge: Drop + Sized {
     fn decision_at(&self, place: usize) -> Result<Self::Decision, Decline>
         ensures { Told (meaning self.now).rules place Self.Decision.DecisionKind.number result };
 
-    // Withdraws a value of a field; declined 14, 5, 15, 16 or 17.
+    // Withdraws a value of a field; declined 14, 5, 15, 16 or 17. Both are plain numbers, as a technician gives them: a struct
+    // of the two would be built at each call only to be taken apart.
     fn withdraw(&mut self, field: usize, value: u32) -> Result<(), Decline>
         ensures { WithdrawDone Self.Request.RequestKind.ranges (meaning self.old) field value (declined result) (meaning self.new) };
 

@@ -1,5 +1,6 @@
 // What a kind of request and a kind of decision are: the two interfaces and the laws that each kind proves.
-// Judges, layers and drafts are written once over these laws, for every kind.
+// Judges, layers and drafts are written once over these laws, for every kind. Making and telling numbers are functions of the
+// interfaces, and no `TryFrom` or `From`: so their contracts and the laws over them are stated once, here.
 ghost use Rattle.std.specs.Prelude.{◌≡◌, ℕ, ◌<◌, ◌≤◌, true, List, length};
 ghost use Rattle.rules.specs.declared.interval.Interval.{Interval as Span};
 ghost use Rattle.rules.specs.Intervals.{within};

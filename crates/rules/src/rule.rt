@@ -9,7 +9,7 @@ ghost use Rattle.rules.specs.Rules.{cut_clauses};
 use crate::interval::Interval;
 use crate::limits::Limits;
 
-// A clause for each field, in order; those past the kind's fields are not asked.
+// A clause for each field, in order, in fixed memory; those past the kind's fields are not asked.
 pub type Clauses = [Interval; 6];
 
 #[derive(Clone, Copy, PartialEq, Eq, Debug)]
