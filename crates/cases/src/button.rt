@@ -8,7 +8,7 @@ use rules::decline::Decline;
 use rules::interval::Interval;
 use rules::kind::{DecisionKind, RequestKind};
 
-#[derive(Clone, Copy)]
+#[derive(Clone, Copy, PartialEq, Eq, Debug)]
 pub(crate) struct Button {
     number: u8,
     ghost ranged: { within (from_to 7 9 ∷ []) (number ∷ []) ≡ true },
@@ -47,19 +47,16 @@ impl RequestKind for Button {
     }
 
     fn make(given: &[u32]) -> Result<Button, Decline> {
-        let [number] = given else {
-            return Err(Decline::NotOfKind);
-        };
-        if *number < 7 || *number > 9 {
-            return Err(Decline::NotOfKind);
+        match given {
+            [number @ 7..=9] => Ok(Button {
+                number: *number as u8,
+            }),
+            _ => Err(Decline::NotOfKind),
         }
-        Ok(Button {
-            number: *number as u8,
-        })
     }
 }
 
-#[derive(Clone, Copy)]
+#[derive(Clone, Copy, PartialEq, Eq, Debug)]
 pub(crate) enum Never {
     Refused,
 }

@@ -7,7 +7,7 @@ ghost use Rattle.std.proofs.Common.{rules};
 use rules::decline::Decline;
 use rules::kind::DecisionKind;
 
-#[derive(Clone, Copy)]
+#[derive(Clone, Copy, PartialEq, Eq, Debug)]
 pub(crate) struct Grade {
     value: u8,
     ghost ranged: { nat_lt value 256 ≡ true },
@@ -38,9 +38,7 @@ impl DecisionKind for Grade {
     }
 
     fn make(given: u32) -> Result<Grade, Decline> {
-        if given > 255 {
-            return Err(Decline::NotOfKind);
-        }
-        Ok(Grade { value: given as u8 })
+        let value = u8::try_from(given).map_err(|_| Decline::NotOfKind)?;
+        Ok(Grade { value })
     }
 }

@@ -7,10 +7,10 @@ ghost use Rattle.cases.specs.Readings.{reading_ranges};
 ghost use Rattle.rules.proofs.Making.{same_test};
 
 use rules::decline::Decline;
-use rules::interval::Interval;
+use rules::interval::{Interval, within};
 use rules::kind::RequestKind;
 
-#[derive(Clone, Copy)]
+#[derive(Clone, Copy, PartialEq, Eq, Debug)]
 pub(crate) struct Reading {
     a: u32,
     b: u32,
@@ -88,7 +88,7 @@ impl RequestKind for Reading {
         let [a, b, c, d, e, f] = given else {
             return Err(Decline::NotOfKind);
         };
-        if *b != 5 || *c > 1 || *d < 10 || *d > 20 || *e < 4294967294 || *f < 1 || *f > 1000 {
+        if !within(Self::ranges(), given) {
             return Err(Decline::NotOfKind);
         }
         Ok(Reading {

@@ -104,8 +104,7 @@ impl<'a> View<'a> {
         (1..self.count() + 1).find(|place| self.matches_at(*place, values))
     }
 
-    // The matching set: bit p - 1 for the rule at place p. Places are counted, since the rules are seen through an edit and
-    // stand in no slice as they are seen.
+    // The matching set: bit p - 1 for the rule at place p. A `for` over the places: a fold that carries the set is no plainer.
     pub(crate) fn matching_set(&self, values: &[u32]) -> u64
         ensures { result ≡ matching_set self.now values.now }
     {
@@ -123,9 +122,7 @@ impl<'a> View<'a> {
         requires { (1 ≤ place) × (place ≤ length self.now) }
         ensures { result ≡ (rule_at self.now place).decision }
     {
-        let kept = self.rules[source(self.edit, place) - 1].decision;
-        // There are 1 to 256 decisions, so the cast keeps the last one's number.
-        let greatest = (self.limits.decisions() - 1) as u8;
-        decision_after(self.edit, place, kept.min(greatest))
+        let rule = &self.rules[source(self.edit, place) - 1];
+        decision_after(self.edit, place, rule.cut_decision(self.limits.decisions()))
     }
 }

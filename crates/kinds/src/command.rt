@@ -9,7 +9,7 @@ ghost use Rattle.rules.proofs.Making.{same_test};
 ghost use Rattle.kinds.specs.Commands.{command_ranges};
 
 use rules::decline::Decline;
-use rules::interval::Interval;
+use rules::interval::{Interval, within};
 use rules::kind::RequestKind;
 use std::fmt;
 
@@ -34,13 +34,7 @@ impl Command {
     ) -> Result<Command, Decline>
         ensures { MadeFrom command_ranges (λ q. q.code ∷ q.level ∷ q.command ∷ q.loop_number ∷ q.minute ∷ []) (code ∷ level ∷ command ∷ loop_number ∷ minute ∷ []) result }
     {
-        if code > 9999
-            || level < 1
-            || level > 4
-            || command > 63
-            || loop_number > 16
-            || minute > 10079
-        {
+        if !within(Self::ranges(), &[code, level, command, loop_number, minute]) {
             return Err(Decline::NotOfKind);
         }
         // Each cast keeps its value, by the test above: `try_from` would only add a refusal that never comes.
@@ -155,14 +149,16 @@ impl RequestKind for Command {
 // Each field by its name, as "code 150, level 3, command 7, loop 2, minute 600".
 impl fmt::Display for Command {
     fn fmt<W: fmt::Write>(&self, f: &mut fmt::Formatter<W>) -> fmt::Result {
-        let code = self.code;
-        let level = self.level;
-        let command = self.command;
-        let on = self.loop_number;
-        let minute = self.minute;
+        let Command {
+            code,
+            level,
+            command,
+            loop_number,
+            minute,
+        } = self;
         write!(
             f,
-            "code {code}, level {level}, command {command}, loop {on}, minute {minute}"
+            "code {code}, level {level}, command {command}, loop {loop_number}, minute {minute}"
         )
     }
 }

@@ -58,10 +58,7 @@ impl fmt::Display for CommandDecision {
         match self {
             CommandDecision::Refuse => write!(f, "refuse"),
             CommandDecision::Hold => write!(f, "hold"),
-            CommandDecision::Permit(minutes) => {
-                let value = minutes.value();
-                write!(f, "permit {value}")
-            }
+            CommandDecision::Permit(minutes) => write!(f, "permit {}", minutes.value()),
         }
     }
 }

@@ -16,7 +16,7 @@ impl Minutes {
     pub fn new(given: u32) -> Result<Minutes, Decline>
         ensures { MadeFrom (from_to 1 240 ∷ []) (λ m. m.value ∷ []) (given ∷ []) result }
     {
-        if given < 1 || given > 240 {
+        if !(1..=240).contains(&given) {
             return Err(Decline::NotOfKind);
         }
         // The cast keeps the value, by the test above.

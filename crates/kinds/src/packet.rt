@@ -32,16 +32,12 @@ impl Packet {
     ) -> Result<Packet, Decline>
         ensures { MadeFrom packet_ranges (λ q. q.source ∷ q.destination ∷ q.sport ∷ q.dport ∷ q.protocol ∷ []) (source ∷ destination ∷ sport ∷ dport ∷ protocol ∷ []) result }
     {
-        if sport > 65535 || dport > 65535 || protocol > 255 {
-            return Err(Decline::NotOfKind);
-        }
-        // Each cast keeps its value, by the test above: `try_from` would only add a refusal that never comes.
         Ok(Packet {
             source,
             destination,
-            sport: sport as u16,
-            dport: dport as u16,
-            protocol: protocol as u8,
+            sport: u16::try_from(sport).map_err(|_| Decline::NotOfKind)?,
+            dport: u16::try_from(dport).map_err(|_| Decline::NotOfKind)?,
+            protocol: u8::try_from(protocol).map_err(|_| Decline::NotOfKind)?,
         })
     }
 

@@ -1,5 +1,5 @@
 -- A match tested field by field. Assumes nothing.
-use Rattle.std.proofs.Common.{◌≡◌, ℕ, suc, ◌≤◌, Bool, false, ◌&&◌, List, [], ◌∷◌, length, refl, ap, le_of_suc-le-suc, not-suc-le-zero, arith}
+use Rattle.std.proofs.Common.{◌≡◌, ℕ, suc, ◌≤◌, false, ◌&&◌, List, [], ◌∷◌, length, map, refl, ap, le_of_suc-le-suc, not-suc-le-zero, arith}
 use Rattle.std.specs.List.{list_all, zip}
 use Rattle.std.proofs.lemmas.Bool.{and_right}
 use Rattle.rules.specs.declared.interval.Interval.{Interval}
@@ -18,16 +18,18 @@ within_uneven [] (v ∷ vs) h = refl
 within_uneven (i ∷ is) [] h = refl
 within_uneven (i ∷ is) (v ∷ vs) h = and_right (inside i v) (within is vs) (within_uneven is vs (λ e. h (ap suc e)))
 
--- the value of a field lies in its clause, cut to its range
-abbrev pub field_holds : (Interval × Interval) × ℕ → Bool
-field_holds p = inside (cut_interval p.0.0 p.0.1) p.1
+-- with as many values as intervals, all lie in theirs exactly when each passes its test; the intervals may be read off other items
+pub within_each : {A : Type 0} (f : A → Interval) (xs : List A) (vs : List ℕ) → length xs ≡ length vs → within (map f xs) vs ≡ list_all (λ (p : A × ℕ). inside (f p.0) p.1) (zip xs vs)
+within_each f [] [] even = refl
+within_each f [] (v ∷ vs) even = absurd (omega arith)
+within_each f (x ∷ xs) [] even = absurd (omega arith)
+within_each f (x ∷ xs) (v ∷ vs) even = ap (λ b. inside (f x) v && b) (within_each f xs vs (omega arith))
 
--- with as many values as ranges, a match is the test of each field
-pub within_each : (ranges clauses : List Interval) (values : List ℕ) → length ranges ≤ length clauses → length ranges ≡ length values
-    → within (cut_clauses ranges clauses) values ≡ list_all field_holds (zip (zip ranges clauses) values)
-within_each [] clauses [] room even = refl
-within_each [] clauses (v ∷ vs) room even = absurd (omega arith)
-within_each (r ∷ rs) [] values room even = absurd (not-suc-le-zero room)
-within_each (r ∷ rs) (c ∷ cs) [] room even = absurd (omega arith)
-within_each (r ∷ rs) (c ∷ cs) (v ∷ vs) room even =
-    ap (λ b. inside (cut_interval r c) v && b) (within_each rs cs vs (le_of_suc-le-suc room) (omega arith))
+-- a clause cut to its range
+abbrev pub cut_pair : Interval × Interval → Interval
+cut_pair p = cut_interval p.0 p.1
+
+pub cut_each : (ranges clauses : List Interval) → length ranges ≤ length clauses → cut_clauses ranges clauses ≡ map cut_pair (zip ranges clauses)
+cut_each [] clauses room = refl
+cut_each (r ∷ rs) [] room = absurd (not-suc-le-zero room)
+cut_each (r ∷ rs) (c ∷ cs) room = ap (λ l. cut_interval r c ∷ l) (cut_each rs cs (le_of_suc-le-suc room))

@@ -33,6 +33,7 @@ pub enum Decline {
 }
 
 impl Decline {
+    // A match, and no discriminants: it reads as the list in specs/ does, and a number given twice is refused by proof.
     pub fn number(&self) -> u8
         ensures { result ≡ number_of self.now }
     {
@@ -60,7 +61,8 @@ impl Decline {
         }
     }
 
-    // No derive of messages: the number, which stands before the words, is listed once, in `number`.
+    // No derive of messages (`thiserror`): the number, which stands before the words, is listed once, in `number`, and the
+    // library stands on std alone.
     fn meaning(&self) -> &'static str {
         match self {
             Decline::TextTooLong => "the text is longer than 65536 bytes",
@@ -90,9 +92,7 @@ impl Decline {
 // The number first, then its meaning, as "declined 11: the default rule is not swapped or deleted".
 impl fmt::Display for Decline {
     fn fmt<W: fmt::Write>(&self, f: &mut fmt::Formatter<W>) -> fmt::Result {
-        let number = self.number();
-        let meaning = self.meaning();
-        write!(f, "declined {number}: {meaning}")
+        write!(f, "declined {}: {}", self.number(), self.meaning())
     }
 }
 

@@ -2,7 +2,7 @@
 ghost use Rattle.std.specs.Prelude.{◌≡◌};
 ghost use Rattle.rules.specs.Clauses.{clause_decline};
 ghost use Rattle.rules.specs.Declines.{declined};
-ghost use Rattle.rules.specs.Intervals.{inside, cut_interval, from_to};
+ghost use Rattle.rules.specs.Intervals.{inside, within, cut_interval, from_to};
 
 use crate::decline::Decline;
 
@@ -10,6 +10,17 @@ use crate::decline::Decline;
 pub struct Interval {
     pub lower: u32,
     pub upper: u32,
+}
+
+// Whether there are as many values as intervals, and each lies in its own.
+pub fn within(intervals: &[Interval], values: &[u32]) -> bool
+    ensures { result ≡ within intervals.now values.now }
+{
+    values.len() == intervals.len()
+        && intervals
+            .iter()
+            .zip(values)
+            .all(|(interval, value)| interval.holds(*value))
 }
 
 impl Interval {
@@ -24,7 +35,7 @@ impl Interval {
     pub fn holds(&self, value: u32) -> bool
         ensures { result ≡ inside self.now value }
     {
-        self.lower <= value && value <= self.upper
+        (self.lower..=self.upper).contains(&value)
     }
 
     // The interval with each end moved to the nearest value of the range.

@@ -29,17 +29,14 @@ pub trait RequestKind: Drop + Sized {
     fn field_count() -> usize
         ensures { result ≡ length ranges }
     {
-        Self::ranges().len()
+        Self::FIELDS
     }
 
     // The range of a field, or None where there is no such field.
     fn range(field: usize) -> Option<Interval>
         ensures { result ≡ of_field ranges field }
     {
-        match field {
-            0 => None,
-            _ => Self::ranges().get(field - 1).copied(),
-        }
+        Self::ranges().get(field.checked_sub(1)?).copied()
     }
 
     // The value of a field, or None where there is no such field.

@@ -7,8 +7,8 @@ use crate::interval::Interval;
 use crate::kind::{DecisionKind, RequestKind};
 use crate::rule::Clauses;
 
-// An array and how many of it count, and no Vec: limits are copied, and a judge gathers them without claiming memory.
-#[derive(Clone, Copy)]
+// An array and how many of it count: a table keeps the ranges as numbers of its own, in fixed memory, and not a borrow of its kind's.
+#[derive(Clone, Copy, PartialEq, Eq, Debug)]
 pub struct Limits {
     ranges: [Interval; 6],
     fields: usize,

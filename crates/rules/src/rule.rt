@@ -1,7 +1,7 @@
 // A rule: an interval for each field, and the number of its decision.
 // A rule has room for six fields; those past the kind's own are not asked. It is plain numbers, in fixed memory, for every
 // kind alike: the number of a decision and not the decision, an array of six and no Vec.
-ghost use Rattle.std.specs.Prelude.{◌≡◌, ◌≤◌, length};
+ghost use Rattle.std.specs.Prelude.{◌≡◌, ◌-◌, ◌≤◌, min, length};
 ghost use Rattle.rules.specs.Limits.{ranges_in};
 ghost use Rattle.rules.specs.Intervals.{within};
 ghost use Rattle.rules.specs.Rules.{cut_clauses};
@@ -37,5 +37,13 @@ impl Rule {
         ensures { result ≡ within (cut_clauses (ranges_in limits.now) self.now.clauses) values.now }
     {
         all_hold(limits.ranges(), &self.clauses, values)
+    }
+
+    // The number of its decision, cut to the decisions that there are.
+    pub fn cut_decision(&self, decisions: usize) -> u8
+        ensures { result ≡ min self.now.decision (decisions - 1) }
+    {
+        let last = u8::try_from(decisions.saturating_sub(1)).unwrap_or(u8::MAX);
+        self.decision.min(last)
     }
 }

@@ -5,8 +5,8 @@ use crate::kind::RequestKind;
 use std::array;
 
 // An array and how many of it count, and no Vec: a judge gathers the values anew for each request, without claiming memory.
-// A generic struct for these and for the ranges of `Limits` could not derive Clone beside its ghost field.
-#[derive(Clone, Copy)]
+// A generic struct for these and for the ranges of `Limits` is no plainer: beside a ghost field it cannot derive `Clone`.
+#[derive(Clone, Copy, PartialEq, Eq, Debug)]
 pub struct Values {
     list: [u32; 6],
     fields: usize,

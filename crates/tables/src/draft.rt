@@ -70,9 +70,7 @@ impl<Q: RequestKind, D: DecisionKind> Draft<Q, D> {
         if self.table.count() >= MAX_RULES {
             return Err(Decline::Full);
         }
-        // The table's copy is not known to be the kinds' own: its ghost fields cannot name those.
-        let own = Limits::of::<Q, D>();
-        let ranges = own.ranges();
+        let ranges = Q::ranges();
         check_clauses(ranges, &clauses)?;
         self.table.list.add(Rule {
             clauses: asked(&clauses, ranges.len()),

@@ -42,15 +42,15 @@ fn check_delete(count: usize, place: usize) -> Result<(), Decline>
     Ok(())
 }
 
-// How many decisions there are is told with each call: a list is of no kind, so its ghost fields cannot name it.
+// How many decisions there are is told with each call, as a number: generic functions would bind a list, which is plain
+// numbers, to a kind for no more than its count.
 impl RuleList {
     // The number of the decision at a place, cut to the decisions that there are; None where there is no such place.
     pub(crate) fn decision_number(&self, decisions: usize, place: usize) -> Option<u8>
         ensures { result ≡ (if placed (vec_len self.now.rules) place then Some (min (rule_at self.now.rules.items place).decision (decisions - 1)) else None) }
     {
         let rule = self.rules.get(place.checked_sub(1)?)?;
-        // The lesser of the two is below 256, so the cast keeps it.
-        Some((rule.decision as usize).min(decisions.saturating_sub(1)) as u8)
+        Some(rule.cut_decision(decisions))
     }
 
     fn check_change(&self, decisions: usize, place: usize, wanted: u8) -> Result<(), Decline>

@@ -18,7 +18,7 @@ use std::marker::PhantomData;
 // and the law of judges that a table is lawful could say nothing of it.
 #[derive(Drop)]
 pub struct Table<Q, D> {
-    // The kinds' limits as plain numbers; nothing reads this copy yet.
+    // A copy of the kinds' limits, as plain numbers, for a diagram that is to be laid over the table; nothing reads it yet.
     pub(crate) limits: Limits,
     pub(crate) list: RuleList,
     pub(crate) kinds: PhantomData<(Q, D)>,

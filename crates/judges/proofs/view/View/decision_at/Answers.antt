@@ -5,4 +5,4 @@ use Rattle.judges.proofs.view.View.decision_at.Goals as goal
 pub returns : goal.returns
 returns c =
     let v = c.self.inside in
-    rw (seen_rule v.rules.now v.edit v.limits c.args.place c.self.invariant c.self.view_is c.requires.0 c.requires.1, ← c.source.ensures) (simp (c.decision_after.ensures, c.min.ensures, c.decisions.ensures))
+    rw (seen_rule v.rules.now v.edit v.limits c.args.place c.self.invariant c.self.view_is c.requires.0 c.requires.1, ← c.source.ensures) (simp (c.decision_after.ensures, c.cut_decision.ensures, c.decisions.ensures))

@@ -1,12 +1,15 @@
 -- The range of a field is looked up by its index.
-use Rattle.std.proofs.Common.{◌-◌, ◌∙◌, arith}
+use Rattle.std.proofs.Common.{◌≡◌, ◌∙◌, arith}
 use Rattle.rules.proofs.Gathered.{of_field_none, of_field_got}
 use Rattle.rules.proofs.kind.RequestKind.range.Goals as goal
 
-pub returns-in-0 : goal.returns-in-0
-returns-in-0 g c = of_field_none g.Self.RequestKind.ranges c.args.field c.in-0.is
+pub returns-in_err-checked_sub : goal.returns-in_err-checked_sub
+returns-in_err-checked_sub g c =
+    let none : c.args.field ≡ 0 = omega (arith, c.in_err-checked_sub.ensures {u = tt}) in
+    c.from_residual.ensures ∙ of_field_none g.Self.RequestKind.ranges c.args.field none
 
-pub returns-in_default : goal.returns-in_default
-returns-in_default g c =
-    let own = c.ranges-in_default.ensures in
-    c.copied.ensures ∙ of_field_got g.Self.RequestKind.ranges c.args.field (c.args.field - 1) c.get.result (omega arith) (rw own at c.get.ensures.lookup)
+pub returns : goal.returns
+returns g c =
+    let own = c.ranges-2.ensures in
+    let at = c.in_ok-checked_sub.ensures {u = tt} in
+    c.copied.ensures ∙ of_field_got g.Self.RequestKind.ranges c.args.field c.in_ok-checked_sub.field-0 c.get.result (omega arith) (rw own at c.get.ensures.lookup)
