@@ -48,6 +48,7 @@ impl RequestKind for Button {
 
     fn make(given: &[u32]) -> Result<Button, Decline> {
         match given {
+            // The cast keeps it, by the pattern.
             [number @ 7..=9] => Ok(Button {
                 number: *number as u8,
             }),

@@ -4,7 +4,8 @@ use kinds::command::Command;
 use kinds::command_decision::CommandDecision;
 use rules::decline::Decline;
 use rules::kind::DecisionKind;
-use std::process::Abort;
+use std::alloc::Global;
+use std::array;
 use std::test::Fail;
 use tables::edit::Edit;
 use tables::table::Table;
@@ -48,33 +49,30 @@ const CHANGES: [(usize, u32, u8); 8] = [
     (4, 241, 0),
 ];
 
-// The numbers of the decisions at the first N places.
-fn decisions<const N: usize>(table: &Table<Command, CommandDecision>) -> Result<[u8; N], Decline> {
-    let mut numbers = [0; N];
-    for (k, number) in numbers.iter_mut().enumerate() {
-        *number = table.decision_at(k + 1)?.number();
-    }
-    Ok(numbers)
+// The numbers of the decisions at places 1 to 4, and 255 where there is no rule: one array says what a whole table decides.
+fn decisions(table: &Table<Command, CommandDecision>) -> [u8; 4] {
+    array::from_fn(|k| {
+        table
+            .decision_at(k + 1)
+            .map_or(255, |decision| decision.number())
+    })
 }
 
-// The edit of the example table is declined with this number, and the table is then as it was; or it is accepted.
-fn tried(
-    rt: &(impl Abort + AllocGlobal),
-    edit: &Edit<CommandDecision>,
-    number: u8,
-) -> Result<(), Fail> {
-    let mut table = table(rt.alloc())?;
-    assert_eq!(rt; declined(table.edit(edit)), number, "{edit}");
-    if number != 0 {
-        assert_eq!(rt; decisions(&table)?, [1, 31, 11, 0]);
-    }
-    Ok(())
+// The number with which an edit of the example table is declined, and the decisions that are then in the table.
+fn tried(heap: Global, edit: &Edit<CommandDecision>) -> Result<(u8, [u8; 4]), Decline> {
+    let mut table = table(heap)?;
+    let number = declined(table.edit(edit));
+    Ok((number, decisions(&table)))
 }
 
 #[test]
 fn swaps(rt: HostRuntime) -> Result<(), Fail> {
     for (first, second, number) in SWAPS {
-        tried(&rt, &Edit::Swap { first, second }, number)?;
+        let (answer, left) = tried(rt.alloc(), &Edit::Swap { first, second })?;
+        assert_eq!(rt; answer, number);
+        if number != 0 {
+            assert_eq!(rt; left, [1, 31, 11, 0]);
+        }
     }
     Ok(())
 }
@@ -82,7 +80,11 @@ fn swaps(rt: HostRuntime) -> Result<(), Fail> {
 #[test]
 fn deletions(rt: HostRuntime) -> Result<(), Fail> {
     for (place, number) in DELETIONS {
-        tried(&rt, &Edit::Delete { place }, number)?;
+        let (answer, left) = tried(rt.alloc(), &Edit::Delete { place })?;
+        assert_eq!(rt; answer, number);
+        if number != 0 {
+            assert_eq!(rt; left, [1, 31, 11, 0]);
+        }
     }
     Ok(())
 }
@@ -91,7 +93,11 @@ fn deletions(rt: HostRuntime) -> Result<(), Fail> {
 fn changes(rt: HostRuntime) -> Result<(), Fail> {
     for (place, decision, number) in CHANGES {
         let decision = CommandDecision::make(decision)?;
-        tried(&rt, &Edit::Change { place, decision }, number)?;
+        let (answer, left) = tried(rt.alloc(), &Edit::Change { place, decision })?;
+        assert_eq!(rt; answer, number);
+        if number != 0 {
+            assert_eq!(rt; left, [1, 31, 11, 0]);
+        }
     }
     Ok(())
 }
@@ -103,15 +109,14 @@ fn accepted_edits(rt: HostRuntime) -> Result<(), Fail> {
         first: 1,
         second: 3,
     })?;
-    assert_eq!(rt; decisions(&table)?, [11, 31, 1, 0]);
+    assert_eq!(rt; decisions(&table), [11, 31, 1, 0]);
     table.edit(&Edit::Change {
         place: 4,
         decision: CommandDecision::Hold,
     })?;
-    assert_eq!(rt; decisions(&table)?, [11, 31, 1, 1]);
+    assert_eq!(rt; decisions(&table), [11, 31, 1, 1]);
     table.edit(&Edit::Delete { place: 2 })?;
-    assert_eq!(rt; decisions(&table)?, [11, 1, 1]);
-    assert_eq!(rt; declined(table.decision_at(4)), 10);
+    assert_eq!(rt; decisions(&table), [11, 1, 1, 255]);
     assert_eq!(rt; table.count(), 3);
     Ok(())
 }

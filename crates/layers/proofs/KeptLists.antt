@@ -33,9 +33,9 @@ without_index (x ∷ xs) value =
     let next : 1 + position_or_len (λ y. eqb y value) xs ≡ suc (position_or_len (λ y. eqb y value) xs) = omega arith in
     grind (arith, next, without_index xs value)
 
--- of values none of which stands twice, one taken out is kept no more
-without_gone : (values : List ℕ) (value index : ℕ) → AllPairs (λ x y. x ≢ y) values → position (λ x. eqb x value) values ≡ Some index → holds_value (remove values index) value ≡ false
-without_gone values value index apart at = holds_any (remove values index) value ∙ list_any_none (λ x. eqb x value) (remove values index) other
+-- of values none of which stands twice, one that is removed is held no more
+removed_gone : (values : List ℕ) (value index : ℕ) → AllPairs (λ x y. x ≢ y) values → position (λ x. eqb x value) values ≡ Some index → holds_value (remove values index) value ≡ false
+removed_gone values value index apart at = holds_any (remove values index) value ∙ list_any_none (λ x. eqb x value) (remove values index) other
   where
     other : All (λ x. eqb x value ≡ false) (remove values index)
     other k d here =
@@ -57,7 +57,7 @@ withdraw_bars on field value values after own done answer taken below borne bear
 -- what giving one back makes of it
 pub give_back_frees : (on field value index : ℕ) (values after : List ℕ) → eqb on field ≡ true → AllPairs (λ x y. x ≢ y) values
     → position (λ x. eqb x value) values ≡ Some index → after ≡ remove values index → (answer : Option (Option Decline)) → Frees field value answer (withdrawals on after)
-give_back_frees on field value index values after own apart at done answer taken below = rw (own, done) (without_gone values value index apart at)
+give_back_frees on field value index values after own apart at done answer taken below = rw (own, done) (removed_gone values value index apart at)
 
 -- lowering first and capping then is capping first
 cap_after : (list : List Window) (value decision cap : ℕ) → cap_inside list value (min decision cap) ≡ min cap (cap_inside list value decision)

@@ -18,6 +18,7 @@ pub struct FieldList<T, const N: usize> {
 
 impl<T, const N: usize> FieldList<T, N> {
     // Set up on a field, with no item. Declined 14 where there is no such field, then 99 where there is not enough memory.
+    // The public calls that set a layer up state this again: each of them states its own promise.
     pub(crate) fn on<Q: RequestKind>(heap: Global, field: usize) -> Result<FieldList<T, N>, Decline>
         ensures made { IfOk result (λ list. (is_some (of_field Q.RequestKind.ranges field) ≡ true) × (list.field ≡ field) × (vec_items list.items ≡ [])) }
         ensures declines { IfErr result (λ decline. decline ≡ set_up_decline (of_field Q.RequestKind.ranges field)) }
