@@ -110,6 +110,7 @@ fn adding_windows_is_declined_in_order(rt: HostRuntime) -> Result<(), Fail> {
         (0, 4, 5),
         (5, 1, 5),
         (1, 5, 5),
+        (4, 0, 5),
         (4, 3, 6),
         (4, 4, 0),
         (1, 4, 0),
@@ -122,10 +123,12 @@ fn adding_windows_is_declined_in_order(rt: HostRuntime) -> Result<(), Fail> {
     for _ in 0..6u8 {
         windows.add(Interval::new(1, 4), CommandDecision::Hold)?;
     }
-    assert_eq!(rt;
-        declined(windows.add(Interval::new(4, 3), CommandDecision::Hold)),
-        7
-    );
+    for (lower, upper) in [(4, 3), (0, 4)] {
+        assert_eq!(rt;
+            declined(windows.add(Interval::new(lower, upper), CommandDecision::Hold)),
+            7
+        );
+    }
     Ok(())
 }
 
@@ -189,6 +192,7 @@ fn thirty_two_values_and_no_more(rt: HostRuntime) -> Result<(), Fail> {
     }
     assert_eq!(rt; declined(pile.withdraw(1, 32)), 17);
     assert_eq!(rt; declined(pile.withdraw(1, 31)), 16);
+    assert_eq!(rt; declined(pile.withdraw(1, 10000)), 5);
     assert_eq!(rt; declined(pile.give_back(1, 0)), 0);
     assert_eq!(rt; declined(pile.withdraw(1, 32)), 0);
     assert_eq!(rt; declined(pile.withdraw(1, 33)), 17);
@@ -288,5 +292,69 @@ fn packets_under_both_layers(rt: HostRuntime) -> Result<(), Fail> {
         ),
         (5, 15)
     );
+    Ok(())
+}
+
+// A withdrawal layer on the code, below windows on the code and a withdrawal layer on the level: each call finds its layer.
+#[test]
+fn withdrawals_through_other_layers(rt: HostRuntime) -> Result<(), Fail> {
+    let codes = Withdrawals::on(rt.alloc(), 1)?.over(swapped(rt.alloc())?);
+    let mut any_code = Windows::on(rt.alloc(), 1)?;
+    any_code.add(Interval::new(0, 9999), CommandDecision::make(241)?)?;
+    let mut pile = Withdrawals::on(rt.alloc(), 2)?.over(any_code.over(codes));
+    assert_eq!(rt; at(&pile, 600)?, 31);
+    assert_eq!(rt; (declined(pile.withdraw(1, 150)), at(&pile, 600)?), (0, 0));
+    assert_eq!(rt; (declined(pile.withdraw(2, 3)), at(&pile, 600)?), (0, 0));
+    assert_eq!(rt; (declined(pile.withdraw(1, 150)), at(&pile, 600)?), (16, 0));
+    assert_eq!(rt; (declined(pile.give_back(1, 150)), at(&pile, 600)?), (0, 0));
+    assert_eq!(rt; (declined(pile.give_back(2, 3)), at(&pile, 600)?), (0, 31));
+    assert_eq!(rt; declined(pile.withdraw(5, 600)), 15);
+    Ok(())
+}
+
+// All of Monday is capped at hold, under a withdrawal layer; the table below is edited, and looked at under edits, through both.
+#[test]
+fn edits_through_a_pile(rt: HostRuntime) -> Result<(), Fail> {
+    let window = capped(rt.alloc(), 0, 1439, 1)?.over(swapped(rt.alloc())?);
+    let mut pile = Withdrawals::on(rt.alloc(), 1)?.over(window);
+    let ten = Edit::Change {
+        place: 1,
+        decision: CommandDecision::make(11)?,
+    };
+    for (minute, answer) in [(1439, (1, 1, 11)), (1440, (11, 1, 11))] {
+        let under = pile.judge_under(&Command::new(150, 3, 7, 2, minute)?, &ten)?;
+        assert_eq!(rt; plain(&under), answer);
+    }
+    let request = Command::new(150, 3, 7, 2, 1440)?;
+    for (first, second, number) in [(1, 2, 0), (1, 4, 11), (2, 2, 12), (0, 1, 10)] {
+        let swap = Edit::Swap { first, second };
+        assert_eq!(rt; declined(pile.judge_under(&request, &swap)), number);
+    }
+    assert_eq!(rt;
+        declined(pile.edit(&Edit::Swap {
+            first: 2,
+            second: 4
+        })),
+        11
+    );
+    assert_eq!(rt; declined(pile.edit(&ten)), 0);
+    assert_eq!(rt; declined(pile.edit(&ten)), 13);
+    assert_eq!(rt; (at(&pile, 1439)?, at(&pile, 1440)?), (1, 11));
+    Ok(())
+}
+
+// Windows on the port over a withdrawal layer on the source.
+#[test]
+fn packets_under_both_layers_the_other_way(rt: HostRuntime) -> Result<(), Fail> {
+    let draft = Draft::<Packet, PacketDecision>::new(rt.alloc(), PacketDecision::Accept)?;
+    let sources = Withdrawals::on(rt.alloc(), 1)?.over(Scan::new(draft.close()));
+    let mut closed = Windows::on(rt.alloc(), 4)?;
+    closed.add(Interval::new(0, 1023), PacketDecision::Discard)?;
+    let mut pile = closed.over(sources);
+    pile.withdraw(1, 7)?;
+    for (source, port, number) in [(7, 1023, 0), (7, 1024, 0), (8, 1023, 0), (8, 1024, 1)] {
+        let packet = Packet::new(source, 8, 5000, port, 6)?;
+        assert_eq!(rt; pile.judge(&packet).decision.number(), number);
+    }
     Ok(())
 }

@@ -104,6 +104,22 @@ fn the_default_at_place_sixty_four(rt: HostRuntime) -> Result<(), Fail> {
     Ok(())
 }
 
+// Codes 100 to 199 are held by the rule at place 1; past either end the default, at place 4, refuses.
+#[test]
+fn a_clause_at_its_ends(rt: HostRuntime) -> Result<(), Fail> {
+    let scan = Scan::new(table(rt.alloc())?);
+    for (code, answer) in [
+        (99, (0, 4, 8)),
+        (100, (1, 1, 9)),
+        (199, (1, 1, 9)),
+        (200, (0, 4, 8)),
+    ] {
+        let verdict = scan.judge(&Command::new(code, 2, 7, 2, 600)?);
+        assert_eq!(rt; plain(&verdict), answer);
+    }
+    Ok(())
+}
+
 #[test]
 fn no_layer_stands_on_a_scan(rt: HostRuntime) -> Result<(), Fail> {
     let mut scan = Scan::new(table(rt.alloc())?);
