@@ -60,12 +60,12 @@ noted_meaning m notes = record { rules = m.rules; notes = notes }
 pub record WithdrawDone (ranges : List Interval) (m : Meaning) (field value : ℕ) (answer : Option Decline) (after : Meaning) : Type 0 where
   pub declines : answer ≡ withdraw_decline ranges m.notes field value
   pub leaves : after ≡ left_by answer (noted_meaning m (withdrawn m.notes field value)) m
-  -- from then on a request that bears the value in that field bears a withdrawn one, and so is refused
+  -- after it a request that bears the value in that field bears a withdrawn one, and so is refused
   pub bars : answer ≡ None → (values : List ℕ) → of_field values field ≡ Some value → bears_withdrawn after.notes values ≡ true
 
 -- giving back: declined, and the meaning as it was, or the value gone from that note
 pub record GiveBackDone (ranges : List Interval) (m : Meaning) (field value : ℕ) (answer : Option Decline) (after : Meaning) : Type 0 where
   pub declines : answer ≡ give_back_decline ranges m.notes field value
   pub leaves : after ≡ left_by answer (noted_meaning m (given_back m.notes field value)) m
-  -- from then on that note keeps the value no more
+  -- after it that note keeps the value no more
   pub frees : answer ≡ None → keeps after.notes field value ≡ false
