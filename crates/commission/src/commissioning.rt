@@ -7,7 +7,7 @@ use kinds::command::Command;
 use kinds::command_decision::CommandDecision;
 use rules::decline::Decline;
 use rules::test::Test;
-use std::io;
+use std::{fmt, io};
 use tables::edit::Edit;
 
 #[derive(Drop)]
@@ -58,29 +58,48 @@ impl<R: Print, J: Judge<Request = Command, Decision = CommandDecision>> Commissi
         }
     }
 
-    // Ends the line of a call: how it went, or how it was declined and what is then as it was.
-    fn say(&self, went: Result<(), Decline>, done: &str, kept: &str) -> io::Result<()> {
+    // Says in one line how a call went: what it did, or how it was declined and what is then as it was. It is printed at once, so
+    // that no line stands there with the call and without its outcome.
+    fn say(
+        &self,
+        call: impl fmt::Display + Drop,
+        went: Result<(), Decline>,
+        done: &str,
+        kept: &str,
+    ) -> io::Result<()> {
         match went {
-            Ok(()) => println!(self.rt; "{done}"),
-            Err(decline) => println!(self.rt; "{decline}; {kept}"),
+            Ok(()) => println!(self.rt; "{call}: {done}"),
+            Err(decline) => println!(self.rt; "{call}: {decline}; {kept}"),
         }
     }
 
     pub(crate) fn edit(&mut self, edit: &Edit<CommandDecision>) -> io::Result<()> {
         let went = self.panel.edit(edit);
-        print!(self.rt; "Edit {edit}: ")?;
-        self.say(went, "made", "the table is unchanged")
+        self.say(
+            format_args!("Edit {edit}"),
+            went,
+            "made",
+            "the table is unchanged",
+        )
     }
 
     pub(crate) fn withdraw_code(&mut self, code: u32) -> io::Result<()> {
         let went = self.panel.withdraw(1, code);
-        print!(self.rt; "Withdraw code {code}: ")?;
-        self.say(went, "done", "nothing is changed")
+        self.say(
+            format_args!("Withdraw code {code}"),
+            went,
+            "done",
+            "nothing is changed",
+        )
     }
 
     pub(crate) fn give_code_back(&mut self, code: u32) -> io::Result<()> {
         let went = self.panel.give_back(1, code);
-        print!(self.rt; "Give code {code} back: ")?;
-        self.say(went, "done", "nothing is changed")
+        self.say(
+            format_args!("Give code {code} back"),
+            went,
+            "done",
+            "nothing is changed",
+        )
     }
 }
