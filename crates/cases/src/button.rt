@@ -5,7 +5,7 @@ ghost use Rattle.rules.specs.Intervals.{within, from_to};
 ghost use Rattle.rules.proofs.Making.{same_test};
 
 use rules::decline::Decline;
-use rules::interval::Interval;
+use rules::interval::{Interval, of_field};
 use rules::kind::{DecisionKind, RequestKind};
 
 #[derive(Clone, Copy, PartialEq, Eq, Debug)]
@@ -35,8 +35,8 @@ impl RequestKind for Button {
       ranged = same_test (λ j. within (from_to 7 9 ∷ []) (slice_index (e j) 0 ∷ [])) p.ranged q.ranged i;
     } };
 
-    fn ranges() -> &'static [Interval] {
-        &[Interval { lower: 7, upper: 9 }]
+    fn range(field: usize) -> Option<Interval> {
+        of_field(&[Interval { lower: 7, upper: 9 }], field)
     }
 
     fn value(&self, field: usize) -> Option<u32> {

@@ -1,5 +1,6 @@
-// Cases from outside the library: boundary values, every decline and its order, full tables, and kinds of one field
-// and of six fields, so that nothing leans on the two kinds that panels use. What is expected was worked out by hand.
+// Cases from outside the library: boundary values, every decline and its order, full tables, kinds of one field and of six
+// fields, and a kind made of another kind, so that nothing leans on the two kinds that panels use. What is expected was
+// worked out by hand.
 #![tactic(auto)]
 
 #[cfg(test)]
@@ -16,6 +17,8 @@ mod grade;
 mod makers;
 #[cfg(test)]
 mod other_kinds;
+#[cfg(test)]
+mod pair;
 #[cfg(test)]
 mod piles;
 #[cfg(test)]

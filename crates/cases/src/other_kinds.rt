@@ -1,10 +1,12 @@
-// Kinds of one field and of six, of one decision and of 256, through draft, table and scan.
+// Kinds of one field and of six, of one decision and of 256, and a kind made of another, through draft, table and scan.
 use crate::button::{Button, Never};
 use crate::example::{declined, plain};
 use crate::grade::Grade;
+use crate::pair::Pair;
 use crate::reading::Reading;
 use judges::judge::Judge;
 use judges::scan::Scan;
+use kinds::packet_decision::PacketDecision;
 use rules::interval::Interval;
 use rules::kind::{DecisionKind, RequestKind};
 use rules::limits::whole_ranges;
@@ -73,5 +75,29 @@ fn six_fields_and_256_decisions(rt: HostRuntime) -> Result<(), Fail> {
         },)),
         13
     );
+    Ok(())
+}
+
+// Pairs of buttons: those whose first is 8 are discarded.
+#[test]
+fn a_kind_made_of_another(rt: HostRuntime) -> Result<(), Fail> {
+    for (one, other, number) in [(7, 9, 0), (6, 7, 9), (7, 10, 9)] {
+        assert_eq!(rt; declined(Pair::<Button>::make(&[one, other])), number);
+    }
+    assert_eq!(rt; declined(Pair::<Button>::make(&[7])), 9);
+    let mut draft = Draft::<Pair<Button>, PacketDecision>::new(rt.alloc(), PacketDecision::Accept)?;
+    let mut clauses = whole_ranges::<Pair<Button>>();
+    clauses[0] = Interval::new(8, 8);
+    draft.add(clauses, PacketDecision::Discard)?;
+    clauses[1] = Interval::new(7, 10);
+    assert_eq!(rt; declined(draft.add(clauses, PacketDecision::Discard)), 5);
+    let mut scan = Scan::new(draft.close());
+    let first = scan.judge(&Pair::make(&[8, 9])?);
+    assert_eq!(rt; plain(&first), (0, 1, 3));
+    let last = scan.judge(&Pair::make(&[9, 8])?);
+    assert_eq!(rt; plain(&last), (1, 2, 2));
+    assert_eq!(rt; declined(scan.withdraw(2, 10)), 5);
+    assert_eq!(rt; declined(scan.withdraw(3, 7)), 14);
+    assert_eq!(rt; declined(scan.withdraw(2, 7)), 15);
     Ok(())
 }

@@ -7,8 +7,30 @@ ghost use Rattle.cases.specs.Readings.{reading_ranges};
 ghost use Rattle.rules.proofs.Making.{same_test};
 
 use rules::decline::Decline;
-use rules::interval::{Interval, within};
+use rules::interval::{Interval, of_field, within};
 use rules::kind::RequestKind;
+
+// The range of each field, in order.
+const RANGES: [Interval; 6] = [
+    Interval {
+        lower: 0,
+        upper: 4294967295,
+    },
+    Interval { lower: 5, upper: 5 },
+    Interval { lower: 0, upper: 1 },
+    Interval {
+        lower: 10,
+        upper: 20,
+    },
+    Interval {
+        lower: 4294967294,
+        upper: 4294967295,
+    },
+    Interval {
+        lower: 1,
+        upper: 1000,
+    },
+];
 
 #[derive(Clone, Copy, PartialEq, Eq, Debug)]
 pub(crate) struct Reading {
@@ -49,27 +71,8 @@ impl RequestKind for Reading {
           ranged = same_test (λ j. within reading_ranges (at 0 (h j) ∷ at 1 (h j) ∷ at 2 (h j) ∷ at 3 (h j) ∷ at 4 (h j) ∷ at 5 (h j) ∷ [])) p.ranged q.ranged i;
         } };
 
-    fn ranges() -> &'static [Interval] {
-        &[
-            Interval {
-                lower: 0,
-                upper: 4294967295,
-            },
-            Interval { lower: 5, upper: 5 },
-            Interval { lower: 0, upper: 1 },
-            Interval {
-                lower: 10,
-                upper: 20,
-            },
-            Interval {
-                lower: 4294967294,
-                upper: 4294967295,
-            },
-            Interval {
-                lower: 1,
-                upper: 1000,
-            },
-        ]
+    fn range(field: usize) -> Option<Interval> {
+        of_field(&RANGES, field)
     }
 
     fn value(&self, field: usize) -> Option<u32> {
@@ -88,7 +91,7 @@ impl RequestKind for Reading {
         let [a, b, c, d, e, f] = given else {
             return Err(Decline::NotOfKind);
         };
-        if !within(Self::ranges(), given) {
+        if !within(&RANGES, given) {
             return Err(Decline::NotOfKind);
         }
         Ok(Reading {

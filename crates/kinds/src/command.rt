@@ -9,9 +9,30 @@ ghost use Rattle.rules.proofs.Making.{same_test};
 ghost use Rattle.kinds.specs.Commands.{command_ranges};
 
 use rules::decline::Decline;
-use rules::interval::{Interval, within};
+use rules::interval::{Interval, of_field, within};
 use rules::kind::RequestKind;
 use std::fmt;
+
+// The range of each field, in order.
+const RANGES: [Interval; 5] = [
+    Interval {
+        lower: 0,
+        upper: 9999,
+    },
+    Interval { lower: 1, upper: 4 },
+    Interval {
+        lower: 0,
+        upper: 63,
+    },
+    Interval {
+        lower: 0,
+        upper: 16,
+    },
+    Interval {
+        lower: 0,
+        upper: 10079,
+    },
+];
 
 #[derive(Clone, Copy, PartialEq, Eq, Debug)]
 pub struct Command {
@@ -34,7 +55,7 @@ impl Command {
     ) -> Result<Command, Decline>
         ensures { MadeFrom command_ranges (λ q. q.code ∷ q.level ∷ q.command ∷ q.loop_number ∷ q.minute ∷ []) (code ∷ level ∷ command ∷ loop_number ∷ minute ∷ []) result }
     {
-        if !within(Self::ranges(), &[code, level, command, loop_number, minute]) {
+        if !within(&RANGES, &[code, level, command, loop_number, minute]) {
             return Err(Decline::NotOfKind);
         }
         // Each cast keeps its value, by the test above: `try_from` would only add a refusal that never comes.
@@ -105,26 +126,8 @@ impl RequestKind for Command {
           ranged = same_test (λ j. within command_ranges (at 0 (e j) ∷ at 1 (e j) ∷ at 2 (e j) ∷ at 3 (e j) ∷ at 4 (e j) ∷ [])) p.ranged q.ranged i;
         } };
 
-    fn ranges() -> &'static [Interval] {
-        &[
-            Interval {
-                lower: 0,
-                upper: 9999,
-            },
-            Interval { lower: 1, upper: 4 },
-            Interval {
-                lower: 0,
-                upper: 63,
-            },
-            Interval {
-                lower: 0,
-                upper: 16,
-            },
-            Interval {
-                lower: 0,
-                upper: 10079,
-            },
-        ]
+    fn range(field: usize) -> Option<Interval> {
+        of_field(&RANGES, field)
     }
 
     fn value(&self, field: usize) -> Option<u32> {

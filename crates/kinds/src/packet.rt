@@ -8,8 +8,32 @@ ghost use Rattle.rules.proofs.Making.{same_test};
 ghost use Rattle.kinds.specs.Packets.{packet_ranges};
 
 use rules::decline::Decline;
-use rules::interval::Interval;
+use rules::interval::{Interval, of_field};
 use rules::kind::RequestKind;
+
+// The range of each field, in order.
+const RANGES: [Interval; 5] = [
+    Interval {
+        lower: 0,
+        upper: 4294967295,
+    },
+    Interval {
+        lower: 0,
+        upper: 4294967295,
+    },
+    Interval {
+        lower: 0,
+        upper: 65535,
+    },
+    Interval {
+        lower: 0,
+        upper: 65535,
+    },
+    Interval {
+        lower: 0,
+        upper: 255,
+    },
+];
 
 #[derive(Clone, Copy, PartialEq, Eq, Debug)]
 pub struct Packet {
@@ -99,29 +123,8 @@ impl RequestKind for Packet {
           ranged = same_test (λ j. within packet_ranges (at 0 (e j) ∷ at 1 (e j) ∷ at 2 (e j) ∷ at 3 (e j) ∷ at 4 (e j) ∷ [])) p.ranged q.ranged i;
         } };
 
-    fn ranges() -> &'static [Interval] {
-        &[
-            Interval {
-                lower: 0,
-                upper: 4294967295,
-            },
-            Interval {
-                lower: 0,
-                upper: 4294967295,
-            },
-            Interval {
-                lower: 0,
-                upper: 65535,
-            },
-            Interval {
-                lower: 0,
-                upper: 65535,
-            },
-            Interval {
-                lower: 0,
-                upper: 255,
-            },
-        ]
+    fn range(field: usize) -> Option<Interval> {
+        of_field(&RANGES, field)
     }
 
     fn value(&self, field: usize) -> Option<u32> {

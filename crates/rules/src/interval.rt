@@ -3,6 +3,7 @@ ghost use Rattle.std.specs.Prelude.{◌≡◌};
 ghost use Rattle.rules.specs.Clauses.{clause_decline};
 ghost use Rattle.rules.specs.Declines.{declined};
 ghost use Rattle.rules.specs.Intervals.{inside, within, cut_interval, from_to};
+ghost use Rattle.rules.specs.Kinds.{of_field};
 
 use crate::decline::Decline;
 
@@ -21,6 +22,13 @@ pub fn within(intervals: &[Interval], values: &[u32]) -> bool
             .iter()
             .zip(values)
             .all(|(interval, value)| interval.holds(*value))
+}
+
+// What a table of ranges has for a field, fields being numbered from 1; None where there is no such field.
+pub fn of_field(ranges: &[Interval], field: usize) -> Option<Interval>
+    ensures { result ≡ of_field ranges.now field }
+{
+    ranges.get(field.checked_sub(1)?).copied()
 }
 
 impl Interval {

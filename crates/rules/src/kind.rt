@@ -21,10 +21,6 @@ pub trait RequestKind: Drop + Sized {
 
     ghost FIELDS: { ℕ };
 
-    // The ranges of the fields, in order.
-    fn ranges() -> &'static [Interval]
-        ensures { result.now ≡ ranges };
-
     // How many fields there are.
     fn field_count() -> usize
         ensures { result ≡ length ranges }
@@ -32,12 +28,10 @@ pub trait RequestKind: Drop + Sized {
         Self::FIELDS
     }
 
-    // The range of a field, or None where there is no such field.
+    // The range of a field, or None where there is no such field. Where the ranges are a table, `interval::of_field` looks it up;
+    // a kind made of other kinds, or of a const parameter, has no table of its own and asks them.
     fn range(field: usize) -> Option<Interval>
-        ensures { result ≡ of_field ranges field }
-    {
-        Self::ranges().get(field.checked_sub(1)?).copied()
-    }
+        ensures { result ≡ of_field ranges field };
 
     // The value of a field, or None where there is no such field.
     fn value(&self, field: usize) -> Option<u32>

@@ -6,6 +6,7 @@ ghost use Rattle.rules.specs.Intervals.{forward, every, from_to};
 use crate::interval::Interval;
 use crate::kind::{DecisionKind, RequestKind};
 use crate::rule::Clauses;
+use std::array;
 
 // An array and how many of it count: a table keeps the ranges as numbers of its own, in fixed memory, and not a borrow of its kind's.
 #[derive(Clone, Copy, PartialEq, Eq, Debug)]
@@ -25,10 +26,7 @@ pub fn whole_ranges<Q: RequestKind>() -> Clauses
     ensures own { take (length Q.RequestKind.ranges) result ≡ Q.RequestKind.ranges }
     ensures past { drop (length Q.RequestKind.ranges) result ≡ replicate (6 - length Q.RequestKind.ranges) (from_to 0 0) }
 {
-    let own = Q::ranges();
-    let mut ranges = [Interval { lower: 0, upper: 0 }; 6];
-    ranges[..own.len()].copy_from_slice(own);
-    ranges
+    array::from_fn(|k| Q::range(k + 1).unwrap_or(Interval { lower: 0, upper: 0 }))
 }
 
 impl Limits {

@@ -70,7 +70,8 @@ impl<Q: RequestKind, D: DecisionKind> Draft<Q, D> {
         if self.table.count() >= MAX_RULES {
             return Err(Decline::Full);
         }
-        let ranges = Q::ranges();
+        let own = Limits::of::<Q, D>();
+        let ranges = own.ranges();
         check_clauses(ranges, &clauses)?;
         self.table.list.add(Rule {
             clauses: asked(&clauses, ranges.len()),

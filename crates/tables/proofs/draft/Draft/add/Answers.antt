@@ -1,5 +1,5 @@
 -- Clauses that are not declined run forward, and an accepted rule is not changed by the cut.
-use Rattle.std.proofs.Common.{◌≤◌, length, vec_items, sym, arith, rules}
+use Rattle.std.proofs.Common.{◌≤◌, ◌∙◌, length, vec_items, sym, arith, rules}
 use Rattle.tables.proofs.Added.{added}
 use Rattle.tables.proofs.Adding.{taken_forward}
 use Rattle.tables.proofs.draft.Draft.add.Goals as goal
@@ -11,7 +11,7 @@ pub returns-clause-added : goal.returns-clause-added
 returns-clause-added g c =
     let list = c.args.self.now.table.list.rules in
     let many = c.count.ensures.count in
-    let own = c.ranges-ranges.ensures in
+    let own = c.ranges-ranges.ensures.value ∙ c.of-own.ensures.ranges in
     let six : length c.ranges-ranges.result.now ≤ length c.args.clauses = search rules in
     added g.Q.RequestKind.ranges g.D.DecisionKind.count (vec_items list) (vec_items c.add.new.self.rules) c.args.clauses c.asked.result (g.D.DecisionKind.number c.args.decision)
     (omega arith) (rw own at six) (g.met.D.DecisionKind.numbered c.args.decision)
