@@ -88,7 +88,8 @@ impl<'a> View<'a> {
         count_after(self.edit, self.rules.len())
     }
 
-    // Whether the rule at a place matches.
+    // Whether the rule at a place matches. Inlined with the two below, it compares with the ranges of a known kind as constants.
+    #[inline(always)]
     fn matches_at(&self, place: usize, values: &[u32]) -> bool
         requires { (1 ≤ place) × (place ≤ length self.now) }
         ensures { result ≡ matches (rule_at self.now place) values.now }
@@ -98,6 +99,7 @@ impl<'a> View<'a> {
 
     // The place of the first rule that matches, from the top; None where none does.
     // The range is not written 1..=: std has its lemma on `find` for a half-open range alone.
+    #[inline(always)]
     pub(crate) fn first_match(&self, values: &[u32]) -> Option<usize>
         ensures { MatchOption result ((p : ℕ) → 1 ≤ p → p ≤ length self.now → matches (rule_at self.now p) values.now ≡ false) (FirstMatch self.now values.now) }
     {
@@ -105,6 +107,7 @@ impl<'a> View<'a> {
     }
 
     // The matching set: bit p - 1 for the rule at place p. A `for` over the places: a fold that carries the set is no plainer.
+    #[inline(always)]
     pub(crate) fn matching_set(&self, values: &[u32]) -> u64
         ensures { result ≡ matching_set self.now values.now }
     {

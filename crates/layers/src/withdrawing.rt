@@ -16,7 +16,9 @@ impl KeptValues {
         self.list.items.contains(&value)
     }
 
-    // Where it stands among those that are, if it does.
+    // Where it stands among those that are, if it does. Kept out of line, where its loop is short: beside the moving up of later
+    // values it would count for that too, at each value.
+    #[inline(never)]
     fn index_of(&self, value: u32) -> Option<usize>
         ensures { result ≡ position (λ x. x == value) self.now.list.items.items }
     {
