@@ -58,8 +58,8 @@ impl<R: Print, J: Judge<Request = Command, Decision = CommandDecision>> Commissi
         }
     }
 
-    // Says in one line how a call went: what it did, or how it was declined and what is then as it was. It is printed at once, so
-    // that no line stands there with the call and without its outcome.
+    // Says in one line how a call went: what it did, or how it was declined and what is then as it was. It is printed by one call:
+    // printed by two, the front would stand there without the outcome where the second is not written.
     fn say(
         &self,
         call: impl fmt::Display + Drop,

@@ -28,8 +28,8 @@ pub trait RequestKind: Drop + Sized {
         Self::FIELDS
     }
 
-    // The range of a field, or None where there is no such field. Where the ranges are a table, `interval::of_field` looks it up;
-    // a kind made of other kinds, or of a const parameter, has no table of its own and asks them.
+    // The range of a field, or None where there is no such field. Where the ranges are a table, `interval::of_field` looks it up.
+    // No table is asked for: a kind made of other kinds, or of a const parameter, may have none that lives as long as the program.
     fn range(field: usize) -> Option<Interval>
         ensures { result ≡ of_field ranges field };
 
